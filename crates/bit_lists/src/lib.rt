@@ -1,0 +1,44 @@
+//! Bits as lists: the bits of octets, and the text of bits.
+#![tactic(auto)]
+
+ghost use Rattle.std.specs.Prelude.{◌≡◌, ◌++◌, IfOk, OnOk};
+ghost use Rattle.bit_lists.specs.Bits.{AreBits, bits_of_octet, bits_of_octets};
+ghost use Rattle.bit_lists.specs.Text.{text_of_bits};
+
+use std::alloc::{AllocError, Global};
+
+/// The bits of octets: eight bits per octet, least significant first (IEEE Std 802.11-2012, 18.3.5.2).
+/// The only error is want of memory.
+pub fn bits_of(alloc: Global, bytes: &[u8]) -> Result<Vec<u8>, AllocError>
+    ensures { IfOk result (λ bits. bits.items ≡ bits_of_octets bytes.now) }
+{
+    let mut bits = Vec::new(alloc);
+    for byte in bytes {
+        push_octet(&mut bits, *byte)?;
+    }
+    Ok(bits)
+}
+
+/// The text of bits: the character `0` or `1` for each bit, and then a newline (own).
+/// The only error is want of memory.
+pub fn put_text(alloc: Global, bits: &[u8]) -> Result<Vec<u8>, AllocError>
+    requires { AreBits bits.now }
+    ensures { IfOk result (λ text. text.items ≡ text_of_bits bits.now) }
+{
+    let mut text = Vec::new(alloc);
+    for bit in bits {
+        text.push(b'0' + *bit)?;
+    }
+    text.push(b'\n')?;
+    Ok(text)
+}
+
+// Appends the eight bits of one octet.
+fn push_octet(bits: &mut Vec<u8>, octet: u8) -> Result<(), AllocError>
+    ensures { OnOk result (bits.new.items ≡ bits.old.items ++ bits_of_octet octet) }
+{
+    for k in 0..8 {
+        bits.push((octet >> k) & 1)?;
+    }
+    Ok(())
+}

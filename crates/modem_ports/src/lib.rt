@@ -1,0 +1,63 @@
+//! The ports of the modem: where bytes come from and go to, with counts of faults, and whole reads and writes.
+#![tactic(auto)]
+
+mod memory;
+mod standard;
+mod steps;
+mod whole;
+
+pub use memory::{MemSink, MemSource};
+pub use standard::{StdSink, StdSource};
+pub use steps::Steps;
+pub use whole::{ReadAllFault, read_all, write_all};
+
+ghost use Rattle.std.specs.Prelude.{◌≡◌, ℕ, ◌<◌, ◌≤◌, List, length, take, Option, IfOk, OnErr};
+ghost use Rattle.modem_ports.specs.Counts.{Rose};
+ghost use Rattle.modem_ports.specs.Told.{Gives, IsAtEnd, Takes};
+
+use thiserror::Error;
+
+/// The answer of a port that failed (own).
+#[derive(Clone, Copy, Debug, Error, PartialEq, Eq)]
+#[error("the port failed")]
+pub struct Failed;
+
+/// Where bytes come from (own).
+pub trait Source {
+    /// The bytes that are left, where the source tells them.
+    ghost left: { Self → Option (List ℕ) };
+
+    /// How many faults there were. The count stands still at `u64::MAX`.
+    ghost faults: { Self → ℕ };
+
+    /// Puts the next bytes into the front of `buf`, and answers how many they are, at most the length of `buf`.
+    /// `Ok(0)` is the end of input. `Failed` gives no bytes, and comes only where the count of faults rose.
+    fn read(&mut self, buf: &mut [u8]) -> Result<usize, Failed>
+        requires { 0 < length buf.old }
+        ensures within { IfOk result (λ n. n ≤ length buf.old) }
+        ensures given { IfOk result (λ n. Gives (left self.old) (take n buf.new) (left self.new)) }
+        ensures end { result ≡ Ok 0 → IsAtEnd (left self.old) }
+        ensures failed { OnErr result (Rose (faults self.old) (faults self.new)) }
+        ensures kept { OnErr result (left self.new ≡ left self.old) }
+        ensures counted { faults self.old ≤ faults self.new };
+}
+
+/// Where bytes go to (own).
+pub trait Sink {
+    /// The bytes that were taken so far, where the sink tells them.
+    ghost taken: { Self → Option (List ℕ) };
+
+    /// How many faults there were. The count stands still at `u64::MAX`.
+    ghost faults: { Self → ℕ };
+
+    /// Takes the first bytes of `piece`, and answers how many they are, at least one.
+    /// `Failed` takes nothing, and comes only where the count of faults rose.
+    fn write(&mut self, piece: &[u8]) -> Result<usize, Failed>
+        requires { 0 < length piece.now }
+        ensures some { IfOk result (λ n. 0 < n) }
+        ensures within { IfOk result (λ n. n ≤ length piece.now) }
+        ensures took { IfOk result (λ n. Takes (taken self.old) (take n piece.now) (taken self.new)) }
+        ensures failed { OnErr result (Rose (faults self.old) (faults self.new)) }
+        ensures kept { OnErr result (taken self.new ≡ taken self.old) }
+        ensures counted { faults self.old ≤ faults self.new };
+}
