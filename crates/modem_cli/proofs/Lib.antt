@@ -1,0 +1,3 @@
+pub mod Absent
+pub mod Ranges
+pub mod Items
