@@ -1,6 +1,7 @@
 //! The ports of the modem: where bytes come from and go to, with counts of faults, and whole reads and writes.
 #![tactic(auto)]
 
+mod memory;
 mod steps;
 mod whole;
 
@@ -8,6 +9,7 @@ ghost use Rattle.std.specs.Prelude.{◌≡◌, ℕ, ◌<◌, ◌≤◌, List, le
 ghost use Rattle.modem_ports.specs.Counts.{Rose};
 ghost use Rattle.modem_ports.specs.Told.{Gives, IsAtEnd, Takes};
 
+pub use memory::{MemSink, MemSource};
 pub use steps::Steps;
 use thiserror::Error;
 pub use whole::{ReadAllFault, read_all, write_all};
