@@ -2,6 +2,7 @@
 #![tactic(auto)]
 
 mod memory;
+mod standard;
 mod steps;
 mod whole;
 
@@ -10,6 +11,7 @@ ghost use Rattle.modem_ports.specs.Counts.{Rose};
 ghost use Rattle.modem_ports.specs.Told.{Gives, IsAtEnd, Takes};
 
 pub use memory::{MemSink, MemSource};
+pub use standard::{StdSink, StdSource};
 pub use steps::Steps;
 use thiserror::Error;
 pub use whole::{ReadAllFault, read_all, write_all};
