@@ -4,6 +4,8 @@
 mod memory;
 mod standard;
 mod steps;
+#[cfg(test)]
+mod tests;
 mod whole;
 
 ghost use Rattle.std.specs.Prelude.{◌≡◌, ℕ, ◌<◌, ◌≤◌, List, length, take, Option, IfOk, OnErr};

@@ -12,7 +12,7 @@ use std::marker::Model;
 /// Calls of `read` are numbered from 1, up to `u64::MAX`, where the number stands still. A call whose number is among
 /// those that fail gives nothing, and the count of faults goes up by one. Any other call gives as many bytes as the
 /// most of one call, the buffer and the bytes that are left allow.
-#[derive(Drop)]
+#[derive(Debug, Drop)]
 pub struct MemSource {
     bytes: Vec<u8>,
     at: usize,
@@ -36,7 +36,12 @@ impl Model for MemSource {
 impl MemSource {
     /// A source of these bytes, which gives at most `most` of them a call, and whose calls with the numbers in
     /// `failing` fail. `most` is at least 1. The only error is want of memory.
-    pub fn open(alloc: Global, bytes: &[u8], most: usize, failing: &[u64]) -> Result<MemSource, AllocError>
+    pub fn open(
+        alloc: Global,
+        bytes: &[u8],
+        most: usize,
+        failing: &[u64],
+    ) -> Result<MemSource, AllocError>
         requires { 1 ≤ most }
         ensures { IfOk result (λ source. source ≡ record { left = bytes.now; most = most; failing = failing.now; calls = 0; faults = 0 }) }
     {
@@ -92,7 +97,7 @@ impl Source for MemSource {
 /// Calls of `write` are numbered from 1, up to `u64::MAX`, where the number stands still. A call whose number is among
 /// those that fail, or that finds no room, takes nothing, and the count of faults goes up by one. Any other call takes
 /// as many bytes as the most of one call, the piece and the room allow. It takes no memory.
-#[derive(Drop)]
+#[derive(Debug, Drop)]
 pub struct MemSink {
     taken: Vec<u8>,
     room: usize,
@@ -117,7 +122,12 @@ impl Model for MemSink {
 impl MemSink {
     /// A sink with room for `room` bytes, which takes at most `most` of them a call, and whose calls with the numbers
     /// in `failing` fail. `most` is at least 1. The only error is want of memory.
-    pub fn open(alloc: Global, room: usize, most: usize, failing: &[u64]) -> Result<MemSink, AllocError>
+    pub fn open(
+        alloc: Global,
+        room: usize,
+        most: usize,
+        failing: &[u64],
+    ) -> Result<MemSink, AllocError>
         requires { 1 ≤ most }
         ensures { IfOk result (λ sink. sink ≡ record { taken = []; room = room; most = most; failing = failing.now; calls = 0; faults = 0 }) }
     {
