@@ -1,11 +1,51 @@
 //! Ports over memory, whose calls fail where that was asked for.
-ghost use Rattle.std.specs.Prelude.{◌≡◌, ◌↔◌, ◌⊎◌, ◌<◌, ◌≤◌, ◌-◌, ◌++◌, [], length, take, drop, min, Contains, IfOk, OnErr, IsErr};
+ghost use Rattle.std.specs.Prelude.{◌≡◌, ◌↔◌, ◌⊎◌, ◌<◌, ◌≤◌, ◌-◌, ◌++◌, [], length, take, drop, min, Contains, IfOk, OnErr, IsErr, IsTrue};
 ghost use Rattle.modem_ports.specs.Counts.{Rose, raised_by};
 ghost use Rattle.modem_ports.specs.Told.{Gives, IsAtEnd, Takes};
 
 use crate::{Failed, Sink, Source};
 use std::alloc::{AllocError, Global};
 use std::marker::Model;
+
+/// The calls of a port: those that fail, how many there were, and how many failed.
+#[derive(Debug, Drop)]
+struct Calls {
+    failing: Vec<u64>,
+    number: u64,
+    faults: u64,
+}
+
+impl Calls {
+    fn open(alloc: Global, failing: &[u64]) -> Result<Calls, AllocError>
+        ensures failing { IfOk result (λ calls. calls.failing.items ≡ failing.now) }
+        ensures number { IfOk result (λ calls. calls.number ≡ 0) }
+        ensures faults { IfOk result (λ calls. calls.faults ≡ 0) }
+    {
+        Ok(Calls {
+            failing: failing.to_vec(alloc)?,
+            number: 0,
+            faults: 0,
+        })
+    }
+
+    /// Numbers one more call, and answers whether it is to fail.
+    fn begin(&mut self) -> bool
+        ensures number { self.new ≡ record self.old { number = raised_by 1 self.old.number } }
+        ensures fails { IsTrue result ↔ Contains self.old.failing.items (raised_by 1 self.old.number) }
+    {
+        self.number = self.number.saturating_add(1);
+        self.failing.contains(&self.number)
+    }
+
+    /// Counts one more fault, and answers it.
+    fn fault(&mut self) -> Failed
+        ensures faults { self.new ≡ record self.old { faults = raised_by 1 self.old.faults } }
+        ensures counted { self.old.faults ≤ self.new.faults }
+    {
+        self.faults = self.faults.saturating_add(1);
+        Failed
+    }
+}
 
 /// A source of the bytes that it was given, which tells them, and whose calls fail where that was asked for (own).
 ///
@@ -17,9 +57,7 @@ pub struct MemSource {
     bytes: Vec<u8>,
     at: usize,
     most: usize,
-    failing: Vec<u64>,
-    calls: u64,
-    faults: u64,
+    calls: Calls,
 }
 
 impl Model for MemSource {
@@ -28,7 +66,13 @@ impl Model for MemSource {
 
     ghost Value = { SourceState };
 
-    ghost view = { λ s. record { left = drop s.at s.bytes.items; most = s.most; failing = s.failing.items; calls = s.calls; faults = s.faults } };
+    ghost view = { λ s. record {
+      left = drop s.at s.bytes.items;
+      most = s.most;
+      failing = s.calls.failing.items;
+      calls = s.calls.number;
+      faults = s.calls.faults;
+    } };
 
     ghost invariant = { λ s. (s.at ≤ vec_len s.bytes) × (1 ≤ s.most) };
 }
@@ -43,17 +87,16 @@ impl MemSource {
         failing: &[u64],
     ) -> Result<MemSource, AllocError>
         requires { 1 ≤ most }
-        ensures { IfOk result (λ source. source ≡ record { left = bytes.now; most = most; failing = failing.now; calls = 0; faults = 0 }) }
+        ensures { IfOk result
+            (λ source. source ≡ record { left = bytes.now; most = most; failing = failing.now; calls = 0; faults = 0 }) }
     {
         let bytes = bytes.to_vec(alloc)?;
-        let failing = failing.to_vec(alloc)?;
+        let calls = Calls::open(alloc, failing)?;
         Ok(MemSource {
             bytes,
             at: 0,
             most,
-            failing,
-            calls: 0,
-            faults: 0,
+            calls,
         })
     }
 }
@@ -74,14 +117,15 @@ impl Source for MemSource {
         ensures kept { OnErr result (Some self.new.left ≡ Some self.old.left) }
         ensures counted { self.old.faults ≤ self.new.faults }
         ensures fails { IsErr result ↔ Contains self.old.failing (raised_by 1 self.old.calls) }
-        ensures count { IfOk result (λ n. n ≡ min self.old.most (min (length buf.old) (length self.old.left))) }
-        ensures next { IfOk result (λ n. self.new ≡ record self.old { left = drop n self.old.left; calls = raised_by 1 self.old.calls }) }
-        ensures fault { OnErr result (self.new ≡ record self.old { calls = raised_by 1 self.old.calls; faults = raised_by 1 self.old.faults }) }
+        ensures count { IfOk result
+            (λ n. n ≡ min self.old.most (min (length buf.old) (length self.old.left))) }
+        ensures next { IfOk result
+            (λ n. self.new ≡ record self.old { left = drop n self.old.left; calls = raised_by 1 self.old.calls }) }
+        ensures fault { OnErr result
+            (self.new ≡ record self.old { calls = raised_by 1 self.old.calls; faults = raised_by 1 self.old.faults }) }
     {
-        self.calls = self.calls.saturating_add(1);
-        if self.failing.contains(&self.calls) {
-            self.faults = self.faults.saturating_add(1);
-            return Err(Failed);
+        if self.calls.begin() {
+            return Err(self.calls.fault());
         }
         let rest = &self.bytes[self.at..];
         let count = self.most.min(buf.len().min(rest.len()));
@@ -102,9 +146,7 @@ pub struct MemSink {
     taken: Vec<u8>,
     room: usize,
     most: usize,
-    failing: Vec<u64>,
-    calls: u64,
-    faults: u64,
+    calls: Calls,
 }
 
 impl Model for MemSink {
@@ -114,7 +156,14 @@ impl Model for MemSink {
 
     ghost Value = { SinkState };
 
-    ghost view = { λ s. record { taken = s.taken.items; room = s.room; most = s.most; failing = s.failing.items; calls = s.calls; faults = s.faults } };
+    ghost view = { λ s. record {
+      taken = s.taken.items;
+      room = s.room;
+      most = s.most;
+      failing = s.calls.failing.items;
+      calls = s.calls.number;
+      faults = s.calls.faults;
+    } };
 
     ghost invariant = { λ s. (vec_len s.taken ≤ s.room) × (s.room ≤ vec_capacity s.taken) × (1 ≤ s.most) };
 }
@@ -129,17 +178,16 @@ impl MemSink {
         failing: &[u64],
     ) -> Result<MemSink, AllocError>
         requires { 1 ≤ most }
-        ensures { IfOk result (λ sink. sink ≡ record { taken = []; room = room; most = most; failing = failing.now; calls = 0; faults = 0 }) }
+        ensures { IfOk result
+            (λ sink. sink ≡ record { taken = []; room = room; most = most; failing = failing.now; calls = 0; faults = 0 }) }
     {
         let taken = Vec::with_capacity(alloc, room)?;
-        let failing = failing.to_vec(alloc)?;
+        let calls = Calls::open(alloc, failing)?;
         Ok(MemSink {
             taken,
             room,
             most,
-            failing,
-            calls: 0,
-            faults: 0,
+            calls,
         })
     }
 
@@ -166,16 +214,18 @@ impl Sink for MemSink {
         ensures failed { OnErr result (Rose self.old.faults self.new.faults) }
         ensures kept { OnErr result (Some self.new.taken ≡ Some self.old.taken) }
         ensures counted { self.old.faults ≤ self.new.faults }
-        ensures fails { IsErr result ↔ (Contains self.old.failing (raised_by 1 self.old.calls) ⊎ (self.old.room ≤ length self.old.taken)) }
-        ensures count { IfOk result (λ n. n ≡ min self.old.most (min (length piece.now) (self.old.room - length self.old.taken))) }
-        ensures next { IfOk result (λ n. self.new ≡ record self.old { taken = self.old.taken ++ take n piece.now; calls = raised_by 1 self.old.calls }) }
-        ensures fault { OnErr result (self.new ≡ record self.old { calls = raised_by 1 self.old.calls; faults = raised_by 1 self.old.faults }) }
+        ensures fails { IsErr result
+            ↔ (Contains self.old.failing (raised_by 1 self.old.calls) ⊎ (self.old.room ≤ length self.old.taken)) }
+        ensures count { IfOk result
+            (λ n. n ≡ min self.old.most (min (length piece.now) (self.old.room - length self.old.taken))) }
+        ensures next { IfOk result
+            (λ n. self.new ≡ record self.old { taken = self.old.taken ++ take n piece.now; calls = raised_by 1 self.old.calls }) }
+        ensures fault { OnErr result
+            (self.new ≡ record self.old { calls = raised_by 1 self.old.calls; faults = raised_by 1 self.old.faults }) }
     {
-        self.calls = self.calls.saturating_add(1);
         let free = self.room - self.taken.len();
-        if free == 0 || self.failing.contains(&self.calls) {
-            self.faults = self.faults.saturating_add(1);
-            return Err(Failed);
+        if self.calls.begin() || free == 0 {
+            return Err(self.calls.fault());
         }
         let count = self.most.min(piece.len().min(free));
         self.taken.extend_from_slice(&piece[..count]).unwrap();
