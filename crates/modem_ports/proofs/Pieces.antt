@@ -2,6 +2,7 @@
 use Rattle.std.proofs.Common.{◌≡◌, ℕ, ◌+◌, ◌-◌, ◌≤◌, List, ◌++◌, length, take, drop, Option, Some, None, arith, length-append, append_assoc, sym, ◌∙◌, ap}
 use Rattle.std.proofs.Math.Seq.{take-add}
 use Rattle.std.proofs.lemmas.Grind.{common_steps}
+use Rattle.std.proofs.lemmas.List.{take_at, take-append-drop}
 use Rattle.modem_ports.specs.Told.{Gives, GivesAtMost, GivesExactly, Takes}
 
 -- a piece and then another are one piece that a source gave
@@ -38,3 +39,11 @@ Takes-more a b c xs at n h t u =
     let e : take (at + n) xs ≡ take at xs ++ take n (take (length xs - at) (drop at xs)) =
     grind (arith, common_steps, take-add at n xs) in
     rw e (Takes-append a b c _ _ t u)
+
+-- the front of a rest that was copied into a buffer, and what is behind it, are the rest
+pub front-copied : (xs left piece behind : List ℕ) (at n m : ℕ) → drop at xs ≡ left → piece ≡ take n (take m (drop at xs)) → length piece ≡ n → left ≡ take n (piece ++ behind) ++ drop (at + n) xs
+front-copied xs left piece behind at n m l e h =
+    let same : piece ≡ take n (drop at xs) = grind (arith, common_steps) in
+    let front : take n (piece ++ behind) ≡ piece = take_at piece behind n h in
+    let rest : drop (at + n) xs ≡ drop n (drop at xs) = grind (arith, common_steps) in
+    sym l ∙ rw (front, same, rest) (sym (take-append-drop n (drop at xs)))

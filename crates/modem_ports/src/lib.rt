@@ -1,13 +1,19 @@
 //! The ports of the modem: where bytes come from and go to, with counts of faults, and whole reads and writes.
 #![tactic(auto)]
 
+mod memory;
+mod standard;
 mod steps;
+#[cfg(test)]
+mod tests;
 mod whole;
 
 ghost use Rattle.std.specs.Prelude.{◌≡◌, ℕ, ◌<◌, ◌≤◌, List, length, take, Option, IfOk, OnErr};
 ghost use Rattle.modem_ports.specs.Counts.{Rose};
 ghost use Rattle.modem_ports.specs.Told.{Gives, IsAtEnd, Takes};
 
+pub use memory::{MemSink, MemSource};
+pub use standard::{StdSink, StdSource};
 pub use steps::Steps;
 use thiserror::Error;
 pub use whole::{ReadAllFault, read_all, write_all};

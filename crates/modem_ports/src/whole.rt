@@ -47,10 +47,14 @@ pub fn read_all<S: Source>(
     ensures whole { IfOk result (λ bytes. Gives (S.left source.old) bytes.items (S.left source.new)) }
     ensures end { IfOk result (λ _. IsAtEnd (S.left source.new)) }
     ensures within { IfOk result (λ bytes. length bytes.items ≤ limit) }
-    ensures long { IsErrOf result ReadAllFault.Long → GivesExactly (limit + 1) (S.left source.old) (S.left source.new) }
-    ensures failed { IsErrOf result ReadAllFault.Failed → Rose (S.faults source.old) (S.faults source.new) }
-    ensures failed_within { IsErrOf result ReadAllFault.Failed → GivesAtMost limit (S.left source.old) (S.left source.new) }
-    ensures no_memory_within { IsErrOf result (ReadAllFault.NoMemory alloc_error) → GivesAtMost limit (S.left source.old) (S.left source.new) }
+    ensures long { IsErrOf result ReadAllFault.Long
+        → GivesExactly (limit + 1) (S.left source.old) (S.left source.new) }
+    ensures failed { IsErrOf result ReadAllFault.Failed
+        → Rose (S.faults source.old) (S.faults source.new) }
+    ensures failed_within { IsErrOf result ReadAllFault.Failed
+        → GivesAtMost limit (S.left source.old) (S.left source.new) }
+    ensures no_memory_within { IsErrOf result (ReadAllFault.NoMemory alloc_error)
+        → GivesAtMost limit (S.left source.old) (S.left source.new) }
     ensures taken { GivesAtMost (limit + 1) (S.left source.old) (S.left source.new) }
     ensures counted { S.faults source.old ≤ S.faults source.new }
 {
@@ -71,14 +75,18 @@ fn read_piece<S: Source>(
 ) -> Result<usize, ReadAllFault>
     requires limit_in { limit ≤ 67108864 }
     requires short { vec_len bytes.old ≤ limit }
-    ensures given { OnOk result (GivesBehind (S.left source.old) bytes.old.items (S.left source.new) bytes.new.items) }
+    ensures given { OnOk result
+        (GivesBehind (S.left source.old) bytes.old.items (S.left source.new) bytes.new.items) }
     ensures count { IfOk result (λ n. vec_len bytes.new ≡ vec_len bytes.old + n) }
     ensures end { result ≡ Ok 0 → IsAtEnd (S.left source.new) }
     ensures within { OnOk result (vec_len bytes.new ≤ limit) }
-    ensures long { IsErrOf result ReadAllFault.Long → GivesExactly (limit + 1 - vec_len bytes.old) (S.left source.old) (S.left source.new) }
-    ensures failed { IsErrOf result ReadAllFault.Failed → Rose (S.faults source.old) (S.faults source.new) }
+    ensures long { IsErrOf result ReadAllFault.Long
+        → GivesExactly (limit + 1 - vec_len bytes.old) (S.left source.old) (S.left source.new) }
+    ensures failed { IsErrOf result ReadAllFault.Failed
+        → Rose (S.faults source.old) (S.faults source.new) }
     ensures kept { IsErrOf result ReadAllFault.Failed → S.left source.new ≡ S.left source.old }
-    ensures no_memory_within { IsErrOf result (ReadAllFault.NoMemory alloc_error) → GivesAtMost (limit - vec_len bytes.old) (S.left source.old) (S.left source.new) }
+    ensures no_memory_within { IsErrOf result (ReadAllFault.NoMemory alloc_error)
+        → GivesAtMost (limit - vec_len bytes.old) (S.left source.old) (S.left source.new) }
     ensures taken { GivesAtMost (limit + 1 - vec_len bytes.old) (S.left source.old) (S.left source.new) }
     ensures counted { S.faults source.old ≤ S.faults source.new }
 {

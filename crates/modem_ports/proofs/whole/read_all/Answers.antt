@@ -1,4 +1,4 @@
-use Rattle.std.proofs.Common.{rules, arith, ◌≡◌, Err}
+use Rattle.std.proofs.Common.{arith}
 use Rattle.std.proofs.lemmas.Result.{err_from_is_err_and}
 use Rattle.modem_ports.proofs.Pieces.{GivesAtMost-append, GivesExactly-append}
 use Rattle.modem_ports.proofs.whole.read_all.Goals as goal

@@ -1,4 +1,4 @@
-use Rattle.std.proofs.Common.{rules, arith, length-take, length-drop}
+use Rattle.std.proofs.Common.{rules}
 use Rattle.modem_ports.proofs.Pieces.{Takes-more}
 use Rattle.modem_ports.proofs.whole.write_all.Goals as goal
 
