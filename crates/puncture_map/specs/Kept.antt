@@ -1,9 +1,10 @@
 -- Puncturing (IEEE Std 802.11-2012, 18.3.5.6): which places of the code are kept. Periods are counted from the first
 -- bit of the field, and run through it without a restart.
-use Rattle.std.specs.Prelude.{ℕ, ◌*◌, ◌%◌, ◌==◌, ◌||◌, Bool, true, List, length, map, filter, count_by, nat_lt, slice_index}
+use Rattle.std.specs.Prelude.{ℕ, ◌+◌, ◌*◌, ◌%◌, ◌==◌, ◌||◌, Bool, true, List, length, map, filter, nat_lt, slice_index}
 use Rattle.std.specs.List.{range_with_len}
 use Rattle.rate_table.specs.declared.CodeRate.{CodeRate}
 use Rattle.rate_table.specs.declared.CodeRate.TheVariants.{Half, TwoThirds, ThreeQuarters}
+use Rattle.rate_table.specs.Symbols.{ceiling}
 
 -- whether a place of the code is kept: all at 1/2; A1 B1 A2 of every four places at 2/3; A1 B1 A2 B3 of every six at 3/4
 abbrev pub is_kept : CodeRate → ℕ → Bool
@@ -22,3 +23,13 @@ kept_count rate steps = length (kept_places rate (2 * steps))
 -- the kept list: the bits of a code at its kept places, in order
 abbrev pub kept_list : CodeRate → List ℕ → List ℕ
 kept_list rate code = map (slice_index code) (kept_places rate (length code))
+
+-- how many steps a period has
+abbrev pub period_of : CodeRate → ℕ
+period_of Half = 1
+period_of TwoThirds = 2
+period_of ThreeQuarters = 3
+
+-- one kept bit for each step, and one more for each period that is begun
+abbrev pub count_by_periods : CodeRate → ℕ → ℕ
+count_by_periods rate steps = steps + ceiling steps (period_of rate)

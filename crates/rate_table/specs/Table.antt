@@ -1,6 +1,6 @@
 -- The eight rates at 20 MHz spacing (IEEE Std 802.11-2012, 18.2.2.4, 18.3.2.3 and 18.3.4.2; the two bounds and the number of a
 -- pattern are own).
-use Rattle.std.specs.Prelude.{ℕ, ◌+◌, ◌*◌}
+use Rattle.std.specs.Prelude.{ℕ, ◌+◌, ◌*◌, List, [], ◌∷◌, slice_index_or}
 use Rattle.rate_table.specs.declared.Modulation.{Modulation}
 use Rattle.rate_table.specs.declared.Modulation.TheVariants.{Bpsk, Qpsk, Qam16, Qam64}
 use Rattle.rate_table.specs.declared.CodeRate.{CodeRate}
@@ -35,6 +35,10 @@ row_of R36 = record { mbps = 36; modulation = Qam16; code_rate = ThreeQuarters; 
 row_of R48 = record { mbps = 48; modulation = Qam64; code_rate = TwoThirds; bits_per_carrier = 6; coded_bits = 288; field_bits = 192; pattern = pattern_number 0 0 0 1; noise_bound = 8; flip_bound = 2 }
 row_of R54 = record { mbps = 54; modulation = Qam64; code_rate = ThreeQuarters; bits_per_carrier = 6; coded_bits = 288; field_bits = 216; pattern = pattern_number 0 0 1 1; noise_bound = 8; flip_bound = 2 }
 
--- the rate with an index, in the order of the table
+-- the eight rates, in the order of the table
+abbrev pub rates : List Rate
+rates = R6 ∷ R9 ∷ R12 ∷ R18 ∷ R24 ∷ R36 ∷ R48 ∷ R54 ∷ []
+
+-- the rate with an index, 0 to 7, in that order
 abbrev pub rate_at : ℕ → Rate
--- (R6 at 0 .. R54 at 7; anything above is R54, say)
+rate_at index = slice_index_or rates index R54
