@@ -1,3 +1,6 @@
 pub mod Absent
-pub mod Ranges
 pub mod Items
+pub mod OneCommand
+pub mod Outcomes
+pub mod Ranges
+pub mod Refused

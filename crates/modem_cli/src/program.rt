@@ -90,7 +90,9 @@ fn execute<S: Source, K: Sink>(
     ensures read_fault { IsErrOf result Refusal.ReadFault → Rose (S.faults source.old) (S.faults source.new) }
     ensures write_fault { IsErrOf result Refusal.WriteFault → Rose (K.faults out.old) (K.faults out.new) }
 {
-    let command = read_words(words).ok_or(Refusal::Words)?;
+    let Some(command) = read_words(words) else {
+        return Err(Refusal::Words);
+    };
     let answer = answer_of(alloc, command, source)?;
     match write_all(out, &answer) {
         Ok(()) => Ok(()),
@@ -131,7 +133,7 @@ fn psdu_text<S: Source>(
     ensures end { IfOk result (λ _. IsAtEnd (S.left source.new)) }
     ensures read_at_most { GivesAtMost 4096 (S.left source.old) (S.left source.new) }
     ensures outcome { IfErr result (λ refusal. IsDecided (status_of refusal)
-        → IfSome (S.left source.old) (λ bytes. (answer : List ℕ → List ℕ) → Refuses refusal ≡ psdu_outcome answer bytes)) }
+        → IfSome (S.left source.old) (λ bytes. Refuses refusal ≡ psdu_outcome (stage_text_of stage rate seed) bytes)) }
     ensures kind { IfErr result (λ refusal. (refusal ≢ Refusal.Words) × (refusal ≢ Refusal.WriteFault)) }
     ensures read_fault { IsErrOf result Refusal.ReadFault → Rose (S.faults source.old) (S.faults source.new) }
 {

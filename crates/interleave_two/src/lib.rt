@@ -1,0 +1,2 @@
+//! The interleaver.
+#![tactic(auto)]
