@@ -1,5 +1,5 @@
 -- The interleaver of one symbol, in its two permutations (IEEE Std 802.11-2012, 18.3.5.7).
-use Rattle.std.specs.Prelude.{ℕ, ◌+◌, ◌-◌, ◌*◌, ◌/◌, ◌%◌, ◌==◌, List, map, max, take, drop, position, slice_index, unwrap_or}
+use Rattle.std.specs.Prelude.{ℕ, ◌+◌, ◌-◌, ◌*◌, ◌/◌, ◌%◌, ◌==◌, List, map, max, position, slice_index, unwrap_or}
 use Rattle.std.specs.List.{range_with_len, flat_map}
 use Rattle.rate_table.specs.declared.Rate.{Rate}
 use Rattle.rate_table.specs.Table.{row_of}
@@ -31,10 +31,8 @@ interleaved rate bits = map (λ j. slice_index bits (source_of rate j)) (range_w
 abbrev pub deinterleaved : Rate → List ℕ → List ℕ
 deinterleaved rate bits = map (λ k. slice_index bits (place_of rate k)) (range_with_len 0 (row_of rate).coded_bits)
 
--- the bits of symbol m
-abbrev pub symbol_bits : Rate → List ℕ → ℕ → List ℕ
-symbol_bits rate bits m = take (row_of rate).coded_bits (drop (m * (row_of rate).coded_bits) bits)
-
 -- the interleaved bits of so many symbols, one symbol's N_CBPS bits after another's
 abbrev pub interleaved_symbols : Rate → ℕ → List ℕ → List ℕ
-interleaved_symbols rate symbols bits = flat_map (λ m. interleaved rate (symbol_bits rate bits m)) (range_with_len 0 symbols)
+interleaved_symbols rate symbols bits =
+    flat_map (λ m. interleaved rate (symbol_bits m)) (range_with_len 0 symbols)
+    -- where symbol_bits m is take N_CBPS (drop (m * N_CBPS) bits)

@@ -4,3 +4,4 @@ pub mod OneCommand
 pub mod Outcomes
 pub mod Ranges
 pub mod Refused
+pub mod Decided

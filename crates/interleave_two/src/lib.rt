@@ -1,2 +1,0 @@
-//! The interleaver.
-#![tactic(auto)]
