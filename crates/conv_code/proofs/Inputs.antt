@@ -1,5 +1,5 @@
 -- What the inputs before a place have to do with its parities and with the state before it.
-use Rattle.std.proofs.Common.{◌≡◌, ℕ, ◌+◌, ◌-◌, ◌*◌, ◌%◌, ◌<◌, ◌≤◌, List, length, slice_index, refl, inl, inr, arith, ltb}
+use Rattle.std.proofs.Common.{◌≡◌, ℕ, ◌+◌, ◌-◌, ◌*◌, ◌%◌, ◌<◌, ◌≤◌, List, length, slice_index, refl, ◌∙◌, inl, inr, arith, ltb}
 use Rattle.std.proofs.lemmas.List.{get_or_past}
 use Rattle.std.proofs.lemmas.Bool.{cases_lt, cond-true, cond-false, lt-ltb, le-ltb}
 use Rattle.bit_lists.specs.Bits.{IsBit, AreBits, bit_of}
@@ -51,6 +51,10 @@ unfolding state_before
 state_before-more u i bits =
     rw (earlier-more u i 0 1 refl, earlier-more u i 1 2 refl, earlier-more u i 2 3 refl, earlier-more u i 3 4 refl, earlier-more u i 4 5 refl, earlier-more u i 5 6 refl, earlier-zero)
     (shifted _ _ _ _ _ _ _ (IsBit-slice_index u i bits) (IsBit-earlier u i 1 bits) (IsBit-earlier u i 2 bits) (IsBit-earlier u i 3 bits) (IsBit-earlier u i 4 bits) (IsBit-earlier u i 5 bits))
+
+-- so what a step gives there is the state before the next place
+pub next_state_along : (state bit next : ℕ) → next ≡ state_after state bit → (u : List ℕ) (i : ℕ) → AreBits u → i < length u → state ≡ state_before u i → bit ≡ slice_index u i → next ≡ state_before u (i + 1)
+next_state_along state bit next after u i bits within same_state same_bit = after ∙ rw (same_state, same_bit) (state_before-more u i bits)
 
 -- a state's bits, from six bits
 pub record BitsOfState (state one two three four five six : ℕ) : Type 0 where

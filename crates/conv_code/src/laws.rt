@@ -4,9 +4,10 @@ ghost use Rattle.std.specs.Prelude.{◌≡◌, ℕ, List, length};
 ghost use Rattle.conv_code.specs.Code.{Codes, code_of};
 ghost use Rattle.conv_code.specs.Linear.{exclusive_ors};
 
-/// A list has one code: what codes it is `code_of` it (own).
+/// A list has one code (own).
 pub fn one_code()
-    ensures { (code u : List ℕ) → Codes code u → code ≡ code_of u }
+    ensures codes { (u : List ℕ) → Codes (code_of u) u }
+    ensures no_other { (code u : List ℕ) → Codes code u → code ≡ code_of u }
 {}
 
 /// The code is linear: the code of the exclusive or of two lists of one length is the exclusive or of their codes,

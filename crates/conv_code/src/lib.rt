@@ -36,6 +36,8 @@ pub fn branch(state: u8, bit: u8) -> (u8, u8)
     requires bit { IsBit bit }
     ensures a { result.0 ≡ branch_a state bit }
     ensures b { result.1 ≡ branch_b state bit }
+    ensures a_is_bit { IsBit result.0 }
+    ensures b_is_bit { IsBit result.1 }
 
     // along a list: at the state before a place and the bit of that place, the two parities of the place
     ensures a_along { (u : List ℕ) (i : ℕ) → AreBits u → i < length u → state ≡ state_before u i
