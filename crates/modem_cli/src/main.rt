@@ -1,10 +1,41 @@
 //! A modem for the OFDM physical layer of 802.11a at 20 MHz channel spacing, in whole numbers: the program.
 #![tactic(auto)]
 
+mod field;
 mod laws;
 mod program;
 mod refusals;
 mod stages;
 mod words;
 
-fn main() {}
+use modem_ports::{StdSink, StdSource, Steps};
+use program::run;
+use refusals::Status;
+use std::env;
+use std::env::Env;
+use std::io;
+use std::process::ExitCode;
+
+/// The code where the words of the command line can't be had for another cause than want of memory: that of no status.
+const NO_WORDS: u8 = 9;
+
+fn main(rt: HostRuntime) -> ExitCode {
+    let words = match words_after_name(&rt) {
+        Ok(words) => words,
+        Err(fault) if fault.kind() == io::ErrorKind::OutOfMemory => {
+            return ExitCode::from(Status::NoMemory.code());
+        }
+        Err(_) => return ExitCode::from(NO_WORDS),
+    };
+    let mut source = StdSource::new(rt.stdin());
+    let mut out = StdSink::new(rt.stdout());
+    let mut report = StdSink::new(rt.stderr());
+    let mut steps = Steps::new();
+    let status = run(rt.alloc(), &words, &mut source, &mut out, &mut report, &mut steps);
+    ExitCode::from(status.code())
+}
+
+/// The words of the command line without the program's name.
+fn words_after_name<R: Env + AllocGlobal>(rt: &R) -> io::Result<Vec<String>> {
+    Ok(env::args(rt)?.skip(1).collect(rt.alloc())?)
+}
