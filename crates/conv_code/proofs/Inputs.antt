@@ -65,6 +65,7 @@ pub record BitsOfState (state one two three four five six : ℕ) : Type 0 where
   pub five_ago : bit_of state 4 ≡ five
   pub six_ago : bit_of state 5 ≡ six
 
+-- six bits, each at its weight
 bits_of_sum : (one two three four five six : ℕ) → one < 2 → two < 2 → three < 2 → four < 2 → five < 2 → six < 2 → BitsOfState (one + 2 * two + 4 * three + 8 * four + 16 * five + 32 * six) one two three four five six
 bits_of_sum one two three four five six p q r s t v = record {
   one_ago = omega arith;
@@ -98,6 +99,7 @@ branch_a_along u i bits =
     let held = bits_of_state_before u i bits in
     rw (branch_a_is, held.two_ago, held.three_ago, held.five_ago, held.six_ago, earlier-zero)
 
+-- and so with B
 pub branch_b_along : (u : List ℕ) (i : ℕ) → AreBits u → branch_b (state_before u i) (slice_index u i) ≡ parity_b u i
 unfolding parity_b
 branch_b_along u i bits =

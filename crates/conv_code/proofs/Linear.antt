@@ -44,6 +44,7 @@ parity_a-exclusive_ors u v same i =
     let at = earlier-exclusive_ors u v same i in
     rw (at 0, at 2, at 3, at 5, at 6) (sum_of_five _ _ _ _ _ _ _ _ _ _)
 
+-- B as A
 parity_b-exclusive_ors : (u v : List ℕ) → length u ≡ length v → (i : ℕ) → parity_b (exclusive_ors u v) i ≡ exclusive_or (parity_b u i) (parity_b v i)
 unfolding parity_b
 parity_b-exclusive_ors u v same i =
@@ -81,5 +82,6 @@ Codes-exclusive_ors u v same =
       b = λ i h. rw (slice_index-exclusive_ors (code_of u) (code_of v) same_codes (2 * i + 1), code_u.b i (omega arith), code_v.b i (omega arith), parity_b-exclusive_ors u v same i);
     }
 
+-- so it is their code
 pub code_of-exclusive_ors : (u v : List ℕ) → length u ≡ length v → code_of (exclusive_ors u v) ≡ exclusive_ors (code_of u) (code_of v)
 code_of-exclusive_ors u v same = sym (same_from_Codes _ _ (Codes-exclusive_ors u v same))
