@@ -3,7 +3,7 @@ use Rattle.std.specs.Prelude.{ℕ, ◌+◌, ◌-◌, ◌*◌, ◌%◌, ◌<◌, 
 use Rattle.std.specs.List.{flat_map, range_with_len}
 
 -- the input so many steps before place i, read as 0 before the first place
-abbrev pub earlier : List ℕ → ℕ → ℕ → ℕ
+unfoldable pub earlier : List ℕ → ℕ → ℕ → ℕ
 earlier u i steps = if nat_lt i steps then 0 else slice_index u (i - steps)
 
 -- A: the exclusive or of u[i], u[i-2], u[i-3], u[i-5] and u[i-6]
@@ -20,6 +20,10 @@ pub record Codes (code u : List ℕ) : Type 0 where
   pub a : (i : ℕ) → i < length u → slice_index code (2 * i) ≡ parity_a u i
   pub b : (i : ℕ) → i < length u → slice_index code (2 * i + 1) ≡ parity_b u i
 
+-- the two parities of place i, A before B
+abbrev pub parities : List ℕ → ℕ → List ℕ
+parities u i = parity_a u i ∷ parity_b u i ∷ []
+
 -- the one list that codes u
 abbrev pub code_of : List ℕ → List ℕ
-code_of u = flat_map (λ i. parity_a u i ∷ parity_b u i ∷ []) (range_with_len 0 (length u))
+code_of u = flat_map (parities u) (range_with_len 0 (length u))

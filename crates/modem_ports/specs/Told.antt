@@ -17,6 +17,10 @@ GivesAtMost most before after = (piece : List ℕ) × (length piece ≤ most) ×
 abbrev pub GivesExactly : ℕ → Option (List ℕ) → Option (List ℕ) → Type 0
 GivesExactly count before after = (piece : List ℕ) × (length piece ≡ count) × Gives before piece after
 
+-- a source gave a piece, which now stands behind the bytes that were there
+abbrev pub GivesBehind : Option (List ℕ) → List ℕ → Option (List ℕ) → List ℕ → Type 0
+GivesBehind left bytes left' bytes' = (piece : List ℕ) × (bytes' ≡ bytes ++ piece) × Gives left piece left'
+
 -- nothing is left of what a source tells
 abbrev pub IsAtEnd : Option (List ℕ) → Type 0
 IsAtEnd left = IfSome left (λ bytes. bytes ≡ [])

@@ -4,18 +4,19 @@
 mod memory;
 mod standard;
 mod steps;
+#[cfg(test)]
+mod tests;
 mod whole;
-
-pub use memory::{MemSink, MemSource};
-pub use standard::{StdSink, StdSource};
-pub use steps::Steps;
-pub use whole::{ReadAllFault, read_all, write_all};
 
 ghost use Rattle.std.specs.Prelude.{◌≡◌, ℕ, ◌<◌, ◌≤◌, List, length, take, Option, IfOk, OnErr};
 ghost use Rattle.modem_ports.specs.Counts.{Rose};
 ghost use Rattle.modem_ports.specs.Told.{Gives, IsAtEnd, Takes};
 
+pub use memory::{MemSink, MemSource};
+pub use standard::{StdSink, StdSource};
+pub use steps::Steps;
 use thiserror::Error;
+pub use whole::{ReadAllFault, read_all, write_all};
 
 /// The answer of a port that failed (own).
 #[derive(Clone, Copy, Debug, Error, PartialEq, Eq)]

@@ -2,7 +2,7 @@
 -- bits is own). It is defined over all places from -7 on.
 use Rattle.std.specs.Prelude.{ℕ, ◌+◌, List, map, length, slice_index}
 use Rattle.std.proofs.Common.{zero, suc}
-use Rattle.std.specs.List.{range_with_len, zip}
+use Rattle.std.specs.List.{range_with_len}
 use Rattle.bit_lists.specs.Bits.{bit_of, exclusive_or}
 
 -- z from place -7 on: entry k is z(k - 7). The first seven entries are x7 to x1, where x_i is bit i - 1 of the number,

@@ -1,11 +1,32 @@
 //! The scrambler of the DATA field: its seed and its sequence (IEEE Std 802.11-2012, 18.3.5.5).
 #![tactic(auto)]
 
-ghost use Rattle.std.specs.Prelude.{◌≡◌, ◌≤◌, ◌↔◌, ◌×◌, length, IsSome, IfSome};
-ghost use Rattle.bit_lists.specs.Bits.{AreBits};
+ghost use Rattle.std.specs.Prelude.{◌≡◌, ◌≤◌, ◌<◌, ◌↔◌, ◌*◌, ◌+◌, ◌%◌, length, IsSome, IfSome};
+ghost use Rattle.bit_lists.specs.Bits.{AreBits, bit_of, exclusive_or};
 ghost use Rattle.ofdm_scrambler.specs.Sequence.{scrambler_sequence, scrambled};
 
-// pub struct Seed, Copy, with a Model whose Value is ℕ, view the number, invariant 1 <= number <= 127 (with `inverse`).
+use std::marker::Model;
+
+pub mod laws;
+
+/// The seed of a scrambler: seven bits x1 to x7, not all 0, of which x_i is bit i - 1 of its number, 1 to 127 (the
+/// number is own).
+#[derive(Clone, Copy, Debug, PartialEq, Eq)]
+pub struct Seed {
+    number: u8,
+}
+
+impl Model for Seed {
+    ghost use Rattle.std.specs.Prelude.{ℕ, ◌≤◌};
+
+    ghost Value = { ℕ };
+
+    ghost view = { λ seed. seed.number };
+
+    ghost invariant = { λ seed. (1 ≤ seed.number) × (seed.number ≤ 127) };
+
+    ghost inverse = { λ number. record { number = number } };
+}
 
 impl Seed {
     /// The seed with a number, from 1 to 127: bit i - 1 of the number is x_i, the bit z(-i) of the sequence (the number
@@ -13,19 +34,99 @@ impl Seed {
     pub fn new(number: u8) -> Option<Seed>
         ensures good { IsSome result ↔ ((1 ≤ number) × (number ≤ 127)) }
         ensures value { IfSome result (λ seed. seed ≡ number) }
+    {
+        match number {
+            1..=127 => Some(Seed { number }),
+            _ => None,
+        }
+    }
 
     /// The seed's number. Takes no memory.
     pub fn number(self) -> u8
         ensures value { result ≡ self }
         ensures positive { 1 ≤ result }
         ensures seven_bits { result ≤ 127 }
+    {
+        self.number
+    }
 }
 
-/// Writes z(0), z(1) and so on into `out`. Takes no memory.
-pub fn sequence(seed: Seed, out: &mut [u8])
-    ensures { out.new ≡ scrambler_sequence seed (length out.old) }
+// The last seven bits of the sequence: bit j is the one that came j + 1 places ago.
+#[derive(Drop)]
+struct Register {
+    bits: u8,
+    ghost seven_bits: { bits < 128 },
+}
 
-/// Changes bit n to its exclusive or with z(n). Takes no memory.
+impl Register {
+    // The register before place 0, which holds the seed's bits.
+    fn before_first(seed: Seed) -> Register
+        ensures { result.bits ≡ seed }
+    {
+        Register {
+            bits: seed.number(),
+        }
+    }
+
+    // The next bit of the sequence, which the register then holds as its bit 0.
+    fn next_bit(&mut self) -> u8
+        ensures bit { result ≡ exclusive_or (bit_of self.old.bits 6) (bit_of self.old.bits 3) }
+        ensures shifted { self.new.bits ≡ (2 * self.old.bits + result) % 128 }
+    {
+        let bit = ((self.bits >> 6) ^ (self.bits >> 3)) & 1;
+        self.bits = ((self.bits << 1) | bit) & 127;
+        bit
+    }
+}
+
+/// Writes the seed's sequence, z(0), z(1) and so on, over all of `out`, one bit an entry (IEEE Std 802.11-2012,
+/// 18.3.5.5). Takes no memory.
+pub fn sequence(seed: Seed, out: &mut [u8])
+    ensures values { out.new ≡ scrambler_sequence seed (length out.old) }
+    ensures bits { AreBits out.new }
+{
+    let mut register = Register::before_first(seed);
+    for bit in out.iter_mut() {
+        *bit = register.next_bit();
+    }
+}
+
+/// Changes bit n to its exclusive or with the seed's z(n), for each of the bits (IEEE Std 802.11-2012, 18.3.5.5).
+/// Takes no memory.
 pub fn scramble_in_place(seed: Seed, bits: &mut [u8])
     requires { AreBits bits.old }
-    ensures { bits.new ≡ scrambled seed bits.old }
+    ensures values { bits.new ≡ scrambled seed bits.old }
+    ensures bits { AreBits bits.new }
+{
+    let mut register = Register::before_first(seed);
+    for bit in bits.iter_mut() {
+        *bit ^= register.next_bit();
+    }
+}
+
+#[cfg(test)]
+mod tests {
+    use super::*;
+    use std::test::Fail;
+
+    #[test]
+    fn numbers_that_name_no_seed(rt: HostRuntime) {
+        assert!(rt; Seed::new(0).is_none());
+        assert!(rt; Seed::new(128).is_none());
+    }
+
+    // The scrambled SERVICE bits of a frame with seed 93, which are 0 before.
+    #[test]
+    fn sixteen_zeros_with_seed_93(rt: HostRuntime) -> Result<(), Fail> {
+        let scrambled = [0, 1, 1, 0, 1, 1, 0, 0, 0, 0, 0, 1, 1, 0, 0, 1];
+        let seed = Seed::new(93).ok_or("93")?;
+        assert_eq!(rt; seed.number(), 93);
+        let mut bits = [0; 16];
+        scramble_in_place(seed, &mut bits);
+        assert_eq!(rt; bits, scrambled);
+        let mut written = [1; 16];
+        sequence(seed, &mut written);
+        assert_eq!(rt; written, scrambled);
+        Ok(())
+    }
+}

@@ -1,0 +1,4 @@
+mod Coded
+mod ExclusiveOr
+mod Inputs
+mod Linear

@@ -1,0 +1,2 @@
+//! Definitions alone: the DATA field of a frame and its bits after each stage (IEEE Std 802.11-2012, 18.3.5).
+#![tactic(auto)]

@@ -1,0 +1,179 @@
+-- Whether words say a command can be decided, so that words and bytes have an outcome.
+use Rattle.std.proofs.Common.{◌≡◌, ◌<◌, ◌≤◌, ◌⊎◌, inl, inr, ℕ, zero, suc, Bool, true, false, List, refl, sym, subst, ◌∙◌, lit<, arith}
+use Rattle.std.proofs.lemmas.Bool.{false≢true, cases_lt}
+use Rattle.std.proofs.lemmas.Slice.Eq.{slice_eq-Decides, bytes_eq-Decides}
+use Rattle.std.specs.Str.{bytes_eq}
+use Rattle.std.specs.Cmp.Lexicographic.{pointwise}
+use Rattle.rate_table.specs.declared.Rate.{Rate}
+use Rattle.rate_table.specs.declared.Rate.TheVariants.{R6, R9, R12, R18, R24, R36, R48, R54}
+use Rattle.rate_table.specs.Table.{rate_at}
+use Rattle.modem_cli.specs.declared.words.Stage.{Stage}
+use Rattle.modem_cli.specs.declared.words.Stage.TheVariants.{Scrambled, Coded, Kept, Interleaved}
+use Rattle.modem_cli.specs.declared.words.Command.{Command}
+use Rattle.modem_cli.specs.declared.words.Command.TheVariants.{Bits, Show}
+use Rattle.modem_cli.specs.declared.refusals.Refusal.TheVariants.{Words}
+use Rattle.modem_cli.specs.Grammar.{IsSeed, Say, words_of}
+use Rattle.modem_cli.specs.Outcome.{Outcome, Refuses, CommandOutcome, HasOutcome, of_command, of_no_command, psdu_outcome, stage_text_of}
+use Rattle.modem_cli.proofs.Outcomes.{outcome_said, outcome_unsaid}
+
+-- a fact or its contrary
+abbrev Decided : Type 0 → Type 0
+Decided P = P ⊎ (P → ⊥)
+
+-- two lists of words are the same or not
+same_by_test : (xs ys : List (List ℕ)) (r : Bool) → (r ≡ true → xs ≡ ys) × (xs ≡ ys → r ≡ true) → Decided (xs ≡ ys)
+same_by_test xs ys true means = inl (means.0 refl)
+same_by_test xs ys false means = inr (λ same. false≢true (means.1 same))
+
+same_words : (xs ys : List (List ℕ)) → Decided (xs ≡ ys)
+same_words xs ys = same_by_test xs ys (pointwise bytes_eq xs ys) (slice_eq-Decides bytes_eq-Decides xs ys (pointwise bytes_eq xs ys) refl)
+
+-- some number below a bound has a property, or none has
+none_to : (P : ℕ → Type 0) (bound : ℕ) → ((n : ℕ) → n < bound → P n → ⊥) → (P bound → ⊥) → (n : ℕ) → n < suc bound → P n → ⊥
+none_to P bound none not_here n low p =
+    elim (cases_lt n bound) [
+        inl under ↦ none n under p
+      | inr over ↦ let at : n ≡ bound = omega arith in not_here (rw at at p) ]
+
+some_below : (P : ℕ → Type 0) → ((n : ℕ) → Decided (P n)) → (bound : ℕ) → ((n : ℕ) × P n) ⊎ ((n : ℕ) → n < bound → P n → ⊥)
+some_below P decide zero = inr (λ n low p. omega arith)
+some_below P decide (suc bound) =
+    elim (decide bound) [
+        inl p ↦ inl (bound, p)
+      | inr not_here ↦ elim (some_below P decide bound) [
+            inl found ↦ inl found
+          | inr none ↦ inr (none_to P bound none not_here) ] ]
+
+-- a number is a seed or not
+seed_decided : (n : ℕ) → Decided (IsSeed n)
+seed_decided n =
+    elim (cases_lt n 1) [
+        inl low ↦ inr (λ is. omega (arith, is.0))
+      | inr some ↦ elim (cases_lt 127 n) [
+            inl high ↦ inr (λ is. omega (arith, is.1))
+          | inr most ↦ inl (some, most) ] ]
+
+-- a command whose one number is a seed is said or not
+said_with_seed : (words : List (List ℕ)) (make : ℕ → Command) → ((n : ℕ) → Decided (Say words (make n))) → ((n : ℕ) → Say words (make n) → n < 128)
+    → Decided ((n : ℕ) × Say words (make n))
+said_with_seed words make decide small =
+    elim (some_below (λ n. Say words (make n)) decide 128) [
+        inl found ↦ inl found
+      | inr none ↦ inr (λ found. none found.0 (small found.0 found.1) found.1) ]
+
+bits_at_seed : (words : List (List ℕ)) (rate : Rate) (n : ℕ) → Decided (Say words (Bits rate n))
+bits_at_seed words rate n =
+    elim (seed_decided n) [
+        inr out ↦ inr (λ says. out says.in_range)
+      | inl in_range ↦ elim (same_words words (words_of (Bits rate n))) [
+            inl same ↦ inl (record { in_range = in_range; words_are = same })
+          | inr other ↦ inr (λ says. other says.words_are) ] ]
+
+show_at_seed : (words : List (List ℕ)) (stage : Stage) (rate : Rate) (n : ℕ) → Decided (Say words (Show stage rate n))
+show_at_seed words stage rate n =
+    elim (seed_decided n) [
+        inr out ↦ inr (λ says. out says.in_range)
+      | inl in_range ↦ elim (same_words words (words_of (Show stage rate n))) [
+            inl same ↦ inl (record { in_range = in_range; words_are = same })
+          | inr other ↦ inr (λ says. other says.words_are) ] ]
+
+bits_at : (words : List (List ℕ)) (rate : Rate) → Decided ((n : ℕ) × Say words (Bits rate n))
+bits_at words rate = said_with_seed words (λ n. Bits rate n) (bits_at_seed words rate) (λ n says. omega (arith, says.in_range.1))
+
+show_at : (words : List (List ℕ)) (stage : Stage) (rate : Rate) → Decided ((n : ℕ) × Say words (Show stage rate n))
+show_at words stage rate = said_with_seed words (λ n. Show stage rate n) (show_at_seed words stage rate) (λ n says. omega (arith, says.in_range.1))
+
+-- some rate has a property, or none has
+index_of : Rate → ℕ
+index_of R6 = 0
+index_of R9 = 1
+index_of R12 = 2
+index_of R18 = 3
+index_of R24 = 4
+index_of R36 = 5
+index_of R48 = 6
+index_of R54 = 7
+
+index_below : (rate : Rate) → index_of rate < 8
+unfolding index_of
+index_below R6 = lit< tt
+index_below R9 = lit< tt
+index_below R12 = lit< tt
+index_below R18 = lit< tt
+index_below R24 = lit< tt
+index_below R36 = lit< tt
+index_below R48 = lit< tt
+index_below R54 = lit< tt
+
+rate_at-index_of : (rate : Rate) → rate_at (index_of rate) ≡ rate
+unfolding index_of
+rate_at-index_of R6 = refl
+rate_at-index_of R9 = refl
+rate_at-index_of R12 = refl
+rate_at-index_of R18 = refl
+rate_at-index_of R24 = refl
+rate_at-index_of R36 = refl
+rate_at-index_of R48 = refl
+rate_at-index_of R54 = refl
+
+some_rate : (P : Rate → Type 0) → ((rate : Rate) → Decided (P rate)) → Decided ((rate : Rate) × P rate)
+some_rate P decide =
+    elim (some_below (λ k. P (rate_at k)) (λ k. decide (rate_at k)) 8) [
+        inl found ↦ inl (rate_at found.0, found.1)
+      | inr none ↦ inr (λ found. none (index_of found.0) (index_below found.0) (subst P (sym (rate_at-index_of found.0)) found.1)) ]
+
+-- some stage has a property, or none has
+no_stage : (P : Stage → Type 0) → (P Scrambled → ⊥) → (P Coded → ⊥) → (P Kept → ⊥) → (P Interleaved → ⊥) → (stage : Stage) → P stage → ⊥
+no_stage P a b c d Scrambled p = a p
+no_stage P a b c d Coded p = b p
+no_stage P a b c d Kept p = c p
+no_stage P a b c d Interleaved p = d p
+
+some_stage : (P : Stage → Type 0) → ((stage : Stage) → Decided (P stage)) → Decided ((stage : Stage) × P stage)
+some_stage P decide =
+    elim (decide Scrambled) [
+        inl p ↦ inl (Scrambled, p)
+      | inr a ↦ elim (decide Coded) [
+            inl p ↦ inl (Coded, p)
+          | inr b ↦ elim (decide Kept) [
+                inl p ↦ inl (Kept, p)
+              | inr c ↦ elim (decide Interleaved) [
+                    inl p ↦ inl (Interleaved, p)
+                  | inr d ↦ inr (λ found. no_stage P a b c d found.0 found.1) ] ] ] ]
+
+-- some `bits` is said or none, and some `show`
+some_bits : (words : List (List ℕ)) → Decided ((rate : Rate) × ((n : ℕ) × Say words (Bits rate n)))
+some_bits words = some_rate (λ rate. (n : ℕ) × Say words (Bits rate n)) (bits_at words)
+
+some_show : (words : List (List ℕ)) → Decided ((stage : Stage) × ((rate : Rate) × ((n : ℕ) × Say words (Show stage rate n))))
+some_show words =
+    some_stage (λ stage. (rate : Rate) × ((n : ℕ) × Say words (Show stage rate n)))
+        (λ stage. some_rate (λ rate. (n : ℕ) × Say words (Show stage rate n)) (show_at words stage))
+
+nothing_said : (words : List (List ℕ)) → (((rate : Rate) × ((n : ℕ) × Say words (Bits rate n))) → ⊥)
+    → (((stage : Stage) × ((rate : Rate) × ((n : ℕ) × Say words (Show stage rate n)))) → ⊥) → (command : Command) → Say words command → ⊥
+nothing_said words no_bits no_show (Bits rate seed) says = no_bits (rate, (seed, says))
+nothing_said words no_bits no_show (Show stage rate seed) says = no_show (stage, (rate, (seed, says)))
+
+-- each command and the bytes have an outcome
+outcome_of : (command : Command) (bytes : List ℕ) → (outcome : Outcome) × CommandOutcome command bytes outcome
+outcome_of (Bits rate seed) bytes = (psdu_outcome (stage_text_of Kept rate seed) bytes, refl)
+outcome_of (Show stage rate seed) bytes = (psdu_outcome (stage_text_of stage rate seed) bytes, refl)
+
+outcome_where_said : (words : List (List ℕ)) (bytes : List ℕ) (command : Command) → Say words command → (outcome : Outcome) × HasOutcome words bytes outcome
+outcome_where_said words bytes command says =
+    let of_it = outcome_of command bytes in (of_it.0, of_command command says of_it.1)
+
+-- words and bytes have an outcome
+pub some_outcome : (words : List (List ℕ)) (bytes : List ℕ) → (outcome : Outcome) × HasOutcome words bytes outcome
+some_outcome words bytes =
+    elim (some_bits words) [
+        inl said ↦ outcome_where_said words bytes (Bits said.0 said.1.0) said.1.1
+      | inr no_bits ↦ elim (some_show words) [
+            inl said ↦ outcome_where_said words bytes (Show said.0 said.1.0 said.1.1.0) said.1.1.1
+          | inr no_show ↦ (Refuses Words, of_no_command (nothing_said words no_bits no_show) refl) ] ]
+
+-- and only one
+pub only_outcome : (words : List (List ℕ)) (bytes : List ℕ) (a b : Outcome) → HasOutcome words bytes a → HasOutcome words bytes b → a ≡ b
+only_outcome words bytes a b (of_command command says is) has = sym (outcome_said words bytes a b command says is has)
+only_outcome words bytes a b (of_no_command none is) has = is ∙ sym (outcome_unsaid words bytes b none has)

@@ -1,0 +1,7 @@
+pub mod Absent
+pub mod Items
+pub mod OneCommand
+pub mod Outcomes
+pub mod Ranges
+pub mod Refused
+pub mod Decided

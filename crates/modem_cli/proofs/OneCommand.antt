@@ -1,0 +1,79 @@
+-- Words say at most one command.
+use Rattle.std.proofs.Common.{◌≡◌, ◌<◌, ◌≤◌, ◌^◌, ℕ, List, [], ◌∷◌, decimal, sym, ap, ◌∙◌, refl, arith, cond, eqb, lit<}
+use Rattle.std.proofs.lemmas.Fmt.{decimal_injective}
+use Rattle.rate_table.specs.declared.Rate.{Rate}
+use Rattle.rate_table.specs.declared.Rate.TheVariants.{R6, R9, R12, R18, R24, R36, R48, R54}
+use Rattle.rate_table.specs.Table.{row_of}
+use Rattle.modem_cli.specs.declared.words.Stage.{Stage}
+use Rattle.modem_cli.specs.declared.words.Stage.TheVariants.{Scrambled, Coded, Kept, Interleaved}
+use Rattle.modem_cli.specs.declared.words.Command.{Command}
+use Rattle.modem_cli.specs.declared.words.Command.TheVariants.{Bits, Show}
+use Rattle.modem_cli.specs.Grammar.{IsSeed, Say, rate_and_seed, stage_word}
+use Rattle.modem_cli.proofs.Ranges.{mbps_small}
+
+-- the rate of so many megabits a second
+abbrev rate_with : ℕ → Rate
+rate_with n =
+    cond (eqb n 6) R6 (cond (eqb n 9) R9 (cond (eqb n 12) R12 (cond (eqb n 18) R18 (cond (eqb n 24) R24 (cond (eqb n 36) R36 (cond (eqb n 48) R48 R54))))))
+
+rate_with-mbps : (rate : Rate) → rate_with (row_of rate).mbps ≡ rate
+rate_with-mbps R6 = refl
+rate_with-mbps R9 = refl
+rate_with-mbps R12 = refl
+rate_with-mbps R18 = refl
+rate_with-mbps R24 = refl
+rate_with-mbps R36 = refl
+rate_with-mbps R48 = refl
+rate_with-mbps R54 = refl
+
+-- one word names one rate
+one_rate : (a b : Rate) → decimal (row_of a).mbps ≡ decimal (row_of b).mbps → a ≡ b
+one_rate a b same =
+    sym (rate_with-mbps a)
+    ∙ ap rate_with (decimal_injective (row_of a).mbps (row_of b).mbps (mbps_small a) (mbps_small b) same)
+    ∙ rate_with-mbps b
+
+-- one word numbers one seed
+one_seed : (a b : ℕ) → IsSeed a → IsSeed b → decimal a ≡ decimal b → a ≡ b
+one_seed a b in_a in_b same = decimal_injective a b (omega (arith, in_a.1)) (omega (arith, in_b.1)) same
+
+-- one word names one stage
+one_stage : (a b : Stage) → stage_word a ≡ stage_word b → a ≡ b
+one_stage Scrambled Scrambled same = refl
+one_stage Scrambled Coded same = cc
+one_stage Scrambled Kept same = cc
+one_stage Scrambled Interleaved same = cc
+one_stage Coded Scrambled same = cc
+one_stage Coded Coded same = refl
+one_stage Coded Kept same = cc
+one_stage Coded Interleaved same = cc
+one_stage Kept Scrambled same = cc
+one_stage Kept Coded same = cc
+one_stage Kept Kept same = refl
+one_stage Kept Interleaved same = cc
+one_stage Interleaved Scrambled same = cc
+one_stage Interleaved Coded same = cc
+one_stage Interleaved Kept same = cc
+one_stage Interleaved Interleaved same = refl
+
+pub one_command : (words : List (List ℕ)) (a b : Command) → Say words a → Say words b → a ≡ b
+one_command words (Bits rate seed) (Bits rate' seed') says says' =
+    let same = sym says.words_are ∙ says'.words_are in
+    let rates : decimal (row_of rate).mbps ≡ decimal (row_of rate').mbps = cc in
+    let seeds : decimal seed ≡ decimal seed' = cc in
+    let rate_is = one_rate rate rate' rates in
+    let seed_is = one_seed seed seed' says.in_range says'.in_range seeds in
+    cc
+one_command words (Bits rate seed) (Show stage' rate' seed') says says' =
+    let same = sym says.words_are ∙ says'.words_are in cc
+one_command words (Show stage rate seed) (Bits rate' seed') says says' =
+    let same = sym says.words_are ∙ says'.words_are in cc
+one_command words (Show stage rate seed) (Show stage' rate' seed') says says' =
+    let same = sym says.words_are ∙ says'.words_are in
+    let stages : stage_word stage ≡ stage_word stage' = cc in
+    let rates : decimal (row_of rate).mbps ≡ decimal (row_of rate').mbps = cc in
+    let seeds : decimal seed ≡ decimal seed' = cc in
+    let stage_is = one_stage stage stage' stages in
+    let rate_is = one_rate rate rate' rates in
+    let seed_is = one_seed seed seed' says.in_range says'.in_range seeds in
+    cc

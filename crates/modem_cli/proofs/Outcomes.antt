@@ -1,0 +1,65 @@
+-- The one outcome of words and bytes, where the words say a command or none.
+use Rattle.std.proofs.Common.{◌≡◌, ℕ, List, Option, Some, None, refl, sym, ap, ◌∙◌, subst}
+use Rattle.std.specs.Option.{IfSome}
+use Rattle.modem_ports.specs.Told.{Takes, TakesPrefix}
+use Rattle.modem_cli.specs.declared.refusals.Refusal.{Refusal}
+use Rattle.modem_cli.specs.declared.refusals.Refusal.TheVariants.{Words}
+use Rattle.modem_cli.specs.declared.words.Command.{Command}
+use Rattle.modem_cli.specs.declared.words.Command.TheVariants.{Bits, Show}
+use Rattle.modem_cli.specs.Grammar.{Say, SayNothing}
+use Rattle.modem_cli.specs.Outcome.{Outcome, Writes, Refuses, CommandOutcome, HasOutcome, of_command, of_no_command, IfOutcome, psdu_outcome}
+use Rattle.modem_cli.specs.Report.{TakesAnswer, TakesAnswerPrefix}
+use Rattle.modem_cli.proofs.OneCommand.{one_command}
+
+-- a command and the bytes have at most one outcome
+pub one_of_command : (command : Command) (bytes : List ℕ) (a b : Outcome) → CommandOutcome command bytes a → CommandOutcome command bytes b → a ≡ b
+one_of_command (Bits rate seed) bytes a b has has' = has ∙ sym has'
+one_of_command (Show stage rate seed) bytes a b has has' = has ∙ sym has'
+
+-- where the words say a command, the outcome is that command's
+pub outcome_said : (words : List (List ℕ)) (bytes : List ℕ) (a b : Outcome) (command : Command) → Say words command → CommandOutcome command bytes a → HasOutcome words bytes b → b ≡ a
+outcome_said words bytes a b command says has (of_command other says' has') =
+    let same = one_command words other command says' says in
+    one_of_command command bytes b a (let P : Command → Type 0 = λ one. CommandOutcome one bytes b in subst P same has') has
+outcome_said words bytes a b command says has (of_no_command none is) = absurd (none command says)
+
+-- where they say none, it is the refusal of the words
+pub outcome_unsaid : (words : List (List ℕ)) (bytes : List ℕ) (b : Outcome) → SayNothing words → HasOutcome words bytes b → b ≡ Refuses Words
+outcome_unsaid words bytes b none (of_command command says has) = absurd (none command says)
+outcome_unsaid words bytes b none (of_no_command none' is) = is
+
+-- so of the bytes that a source tells: the answer was taken whole
+pub answer_taken : (words : List (List ℕ)) (left : Option (List ℕ)) (command : Command) (answer : List ℕ) (before after : Option (List ℕ))
+    → Say words command → IfSome left (λ bytes. CommandOutcome command bytes (Writes answer)) → Takes before answer after
+    → IfOutcome words left (TakesAnswer before after)
+answer_taken words None command answer before after says has takes = tt
+answer_taken words (Some bytes) command answer before after says has takes =
+    λ outcome is. (answer, outcome_said words bytes (Writes answer) outcome command says has is, takes)
+
+-- .. or in part
+pub answer_taken_in_part : (words : List (List ℕ)) (left : Option (List ℕ)) (command : Command) (answer : List ℕ) (before after : Option (List ℕ))
+    → Say words command → IfSome left (λ bytes. CommandOutcome command bytes (Writes answer)) → TakesPrefix before answer after
+    → IfOutcome words left (TakesAnswerPrefix before after)
+answer_taken_in_part words None command answer before after says has takes = tt
+answer_taken_in_part words (Some bytes) command answer before after says has takes =
+    λ outcome is. (answer, outcome_said words bytes (Writes answer) outcome command says has is, takes)
+
+-- .. or the command was refused
+pub command_refused : (words : List (List ℕ)) (left : Option (List ℕ)) (command : Command) (refusal : Refusal)
+    → Say words command → IfSome left (λ bytes. CommandOutcome command bytes (Refuses refusal))
+    → IfOutcome words left (λ outcome. outcome ≡ Refuses refusal)
+command_refused words None command refusal says has = tt
+command_refused words (Some bytes) command refusal says has =
+    λ outcome is. outcome_said words bytes (Refuses refusal) outcome command says has is
+
+-- .. or the words were
+pub words_refused : (words : List (List ℕ)) (left : Option (List ℕ)) → SayNothing words → IfOutcome words left (λ outcome. outcome ≡ Refuses Words)
+words_refused words None none = tt
+words_refused words (Some bytes) none = λ outcome is. outcome_unsaid words bytes outcome none is
+
+-- what refuses a PSDU whatever is made of it refuses it for one command
+pub for_one_answer : (left : Option (List ℕ)) (refusal : Refusal) (answer : List ℕ → List ℕ)
+    → IfSome left (λ bytes. (any : List ℕ → List ℕ) → Refuses refusal ≡ psdu_outcome any bytes)
+    → IfSome left (λ bytes. Refuses refusal ≡ psdu_outcome answer bytes)
+for_one_answer None refusal answer all = tt
+for_one_answer (Some bytes) refusal answer all = all answer

@@ -1,0 +1,4 @@
+pub mod Refusals
+pub mod Grammar
+pub mod Outcome
+pub mod Report

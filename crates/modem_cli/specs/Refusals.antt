@@ -1,0 +1,39 @@
+-- Refusals, statuses and report lines (own).
+use Rattle.std.specs.Prelude.{ℕ, List, [], ◌∷◌, ◌++◌, codes}
+use Rattle.modem_cli.specs.declared.refusals.Refusal.{Refusal}
+use Rattle.modem_cli.specs.declared.refusals.Refusal.TheVariants.{Words, EmptyPsdu, LongPsdu, ReadFault, WriteFault, NoMemory}
+use Rattle.modem_cli.specs.declared.refusals.Status.{Status}
+use Rattle.modem_cli.specs.declared.refusals.Status.TheVariants as status
+
+-- the code with which the program ends
+abbrev pub code_of_status : Status → ℕ
+code_of_status status.Ok = 0
+code_of_status status.BadWords = 2
+code_of_status status.BadInput = 3
+code_of_status status.NoFrame = 4
+code_of_status status.CutFrame = 5
+code_of_status status.ReadFault = 6
+code_of_status status.WriteFault = 7
+code_of_status status.NoMemory = 8
+
+-- the status of a refusal
+abbrev pub status_of : Refusal → Status
+status_of Words = status.BadWords
+status_of EmptyPsdu = status.BadInput
+status_of LongPsdu = status.BadInput
+status_of ReadFault = status.ReadFault
+status_of WriteFault = status.WriteFault
+status_of NoMemory = status.NoMemory
+
+-- the report line of a refusal, without its newline
+abbrev pub report_of : Refusal → List ℕ
+report_of Words = codes "error 1: words"
+report_of EmptyPsdu = codes "error 2: empty psdu"
+report_of LongPsdu = codes "error 3: psdu over 4095 octets"
+report_of ReadFault = codes "error 10: read fault"
+report_of WriteFault = codes "error 11: write fault"
+report_of NoMemory = codes "error 12: no memory"
+
+-- the report line: a newline ends it
+abbrev pub report_line : Refusal → List ℕ
+report_line refusal = report_of refusal ++ 10 ∷ []

@@ -1,0 +1,166 @@
+//! One run of the program, over any ports.
+ghost use Rattle.std.specs.Prelude.{◌≡◌, ◌≢◌, ◌↔◌, ◌+◌, ◌≤◌, ◌⊎◌, ℕ, List, length, map, string_bytes, IfOk, IfErr, IfSome, OnOk, IsErrOf};
+ghost use Rattle.modem_ports.specs.Counts.{Rose};
+ghost use Rattle.modem_ports.specs.Told.{GivesAtMost, IsAtEnd};
+ghost use Rattle.modem_cli.specs.declared.words.Command.{Command};
+ghost use Rattle.modem_cli.specs.declared.refusals.Refusal.{Refusal};
+ghost use Rattle.modem_cli.specs.Grammar.{IsInRange, Say, SayNothing};
+ghost use Rattle.modem_cli.specs.Outcome.{Writes, Refuses, IfOutcome, CommandOutcome, AreRefused, IfWrites, IfRefuses, ReadsInput, input_limit, psdu_outcome, stage_text_of};
+ghost use Rattle.modem_cli.specs.Refusals.{status_of};
+ghost use Rattle.modem_cli.specs.Report.{IsDecided, IsReported, TakesAnswer, TakesAnswerPrefix};
+
+use crate::refusals::{Refusal, Status, line_of};
+use crate::stages::stage_text;
+use crate::words::{Command, Stage, read_words};
+use modem_ports::{ReadAllFault, Sink, Source, Steps, read_all, write_all};
+use ofdm_scrambler::Seed;
+use rate_table::Rate;
+use std::alloc::Global;
+
+/// One run: the words are those of the command line without the program's name, `source` is read where the command
+/// reads its input, `out` takes the command's bytes and `report` the line of a refusal. It has no condition, and `out`
+/// is written only once all memory was taken.
+pub fn run<S: Source, K: Sink, E: Sink>(
+    alloc: Global,
+    words: &Vec<String>,
+    source: &mut S,
+    out: &mut K,
+    report: &mut E,
+    _steps: &mut Steps,
+) -> Status
+    // What is written: with `Ok` all bytes of the outcome, with `WriteFault` a prefix of them, else nothing.
+    ensures written { result ≡ Status.Ok → IfOutcome (map string_bytes words.now.items) (S.left source.old)
+        (TakesAnswer (K.taken out.old) (K.taken out.new)) }
+    ensures written_in_part { result ≡ Status.WriteFault → IfOutcome (map string_bytes words.now.items) (S.left source.old)
+        (TakesAnswerPrefix (K.taken out.old) (K.taken out.new)) }
+    ensures out_untouched { result ≢ Status.Ok → result ≢ Status.WriteFault → out.new ≡ out.old }
+
+    // What is reported: with `Ok` nothing, else the line of the refusal.
+    ensures unreported { result ≡ Status.Ok → report.new ≡ report.old }
+    ensures reported { result ≢ Status.Ok → IsReported (map string_bytes words.now.items) (S.left source.old) result
+        (E.taken report.old) (E.taken report.new) (Rose (E.faults report.old) (E.faults report.new)) }
+
+    // What is read.
+    ensures read { result ≡ Status.Ok → (command : Command) → Say (map string_bytes words.now.items) command → ReadsInput command → IsAtEnd (S.left source.new) }
+    ensures read_at_most { (command : Command) → Say (map string_bytes words.now.items) command
+        → GivesAtMost (input_limit command + 1) (S.left source.old) (S.left source.new) }
+    ensures source_untouched { result ≡ Status.BadWords → source.new ≡ source.old }
+
+    // When each status comes.
+    ensures bad_words { (result ≡ Status.BadWords) ↔ AreRefused (map string_bytes words.now.items) }
+    ensures read_fault { result ≡ Status.ReadFault → Rose (S.faults source.old) (S.faults source.new) }
+    ensures write_fault { result ≡ Status.WriteFault → Rose (K.faults out.old) (K.faults out.new) }
+    ensures answers { ¬ Rose (S.faults source.old) (S.faults source.new) → ¬ Rose (K.faults out.old) (K.faults out.new)
+        → IfOutcome (map string_bytes words.now.items) (S.left source.old)
+            (λ outcome. IfWrites outcome ((result ≡ Status.Ok) ⊎ (result ≡ Status.NoMemory))) }
+    ensures refuses { ¬ Rose (S.faults source.old) (S.faults source.new)
+        → IfOutcome (map string_bytes words.now.items) (S.left source.old)
+            (λ outcome. IfRefuses outcome (λ refusal. (result ≡ status_of refusal) ⊎ (result ≡ Status.NoMemory))) }
+{
+    match execute(alloc, words, source, out) {
+        Ok(()) => Status::Ok,
+        Err(refusal) => {
+            let line = line_of(&refusal);
+            // Where the report can't be written, the status says what happened all the same.
+            let _ = write_all(report, line.as_slice());
+            refusal.status()
+        }
+    }
+}
+
+/// Does what the words ask for, or answers why not.
+fn execute<S: Source, K: Sink>(
+    alloc: Global,
+    words: &Vec<String>,
+    source: &mut S,
+    out: &mut K,
+) -> Result<(), Refusal>
+    ensures ok { OnOk result (IfOutcome (map string_bytes words.now.items) (S.left source.old)
+        (TakesAnswer (K.taken out.old) (K.taken out.new))) }
+    ensures read { OnOk result ((command : Command) → Say (map string_bytes words.now.items) command → ReadsInput command → IsAtEnd (S.left source.new)) }
+    ensures read_at_most { (command : Command) → Say (map string_bytes words.now.items) command
+        → GivesAtMost (input_limit command + 1) (S.left source.old) (S.left source.new) }
+    ensures outcome { IfErr result (λ refusal. IsDecided (status_of refusal)
+        → IfOutcome (map string_bytes words.now.items) (S.left source.old) (λ outcome. outcome ≡ Refuses refusal)) }
+    ensures words { IsErrOf result Refusal.Words ↔ SayNothing (map string_bytes words.now.items) }
+    ensures source_untouched { IsErrOf result Refusal.Words → source.new ≡ source.old }
+    ensures out_untouched { IfErr result (λ refusal. refusal ≢ Refusal.WriteFault → out.new ≡ out.old) }
+    ensures in_part { IsErrOf result Refusal.WriteFault → IfOutcome (map string_bytes words.now.items) (S.left source.old)
+        (TakesAnswerPrefix (K.taken out.old) (K.taken out.new)) }
+    ensures read_fault { IsErrOf result Refusal.ReadFault → Rose (S.faults source.old) (S.faults source.new) }
+    ensures write_fault { IsErrOf result Refusal.WriteFault → Rose (K.faults out.old) (K.faults out.new) }
+{
+    let Some(command) = read_words(words) else {
+        return Err(Refusal::Words);
+    };
+    let answer = answer_of(alloc, command, source)?;
+    match write_all(out, &answer) {
+        Ok(()) => Ok(()),
+        Err(_) => Err(Refusal::WriteFault),
+    }
+}
+
+/// The bytes that a command writes.
+fn answer_of<S: Source>(
+    alloc: Global,
+    command: Command,
+    source: &mut S,
+) -> Result<Vec<u8>, Refusal>
+    requires { IsInRange command }
+    ensures ok { IfOk result (λ answer. IfSome (S.left source.old) (λ bytes. CommandOutcome command bytes (Writes answer.items))) }
+    ensures end { IfOk result (λ _. IsAtEnd (S.left source.new)) }
+    ensures read_at_most { GivesAtMost (input_limit command + 1) (S.left source.old) (S.left source.new) }
+    ensures outcome { IfErr result (λ refusal. IsDecided (status_of refusal)
+        → IfSome (S.left source.old) (λ bytes. CommandOutcome command bytes (Refuses refusal))) }
+    ensures kind { IfErr result (λ refusal. (refusal ≢ Refusal.Words) × (refusal ≢ Refusal.WriteFault)) }
+    ensures read_fault { IsErrOf result Refusal.ReadFault → Rose (S.faults source.old) (S.faults source.new) }
+{
+    match command {
+        Command::Bits { rate, seed } => psdu_text(alloc, Stage::Kept, rate, seed, source),
+        Command::Show { stage, rate, seed } => psdu_text(alloc, stage, rate, seed, source),
+    }
+}
+
+/// The text of a stage, for a PSDU that is read.
+fn psdu_text<S: Source>(
+    alloc: Global,
+    stage: Stage,
+    rate: Rate,
+    seed: Seed,
+    source: &mut S,
+) -> Result<Vec<u8>, Refusal>
+    ensures ok { IfOk result (λ text. IfSome (S.left source.old) (λ bytes. Writes text.items ≡ psdu_outcome (stage_text_of stage rate seed) bytes)) }
+    ensures end { IfOk result (λ _. IsAtEnd (S.left source.new)) }
+    ensures read_at_most { GivesAtMost 4096 (S.left source.old) (S.left source.new) }
+    ensures outcome { IfErr result (λ refusal. IsDecided (status_of refusal)
+        → IfSome (S.left source.old) (λ bytes. Refuses refusal ≡ psdu_outcome (stage_text_of stage rate seed) bytes)) }
+    ensures kind { IfErr result (λ refusal. (refusal ≢ Refusal.Words) × (refusal ≢ Refusal.WriteFault)) }
+    ensures read_fault { IsErrOf result Refusal.ReadFault → Rose (S.faults source.old) (S.faults source.new) }
+{
+    let psdu = read_psdu(alloc, source)?;
+    Ok(stage_text(alloc, stage, rate, seed, &psdu)?)
+}
+
+/// A PSDU of 1 to 4095 octets, read to the end of input.
+fn read_psdu<S: Source>(alloc: Global, source: &mut S) -> Result<Vec<u8>, Refusal>
+    ensures psdu { IfOk result (λ psdu. IfSome (S.left source.old) (λ bytes. psdu.items ≡ bytes)) }
+    ensures some { IfOk result (λ psdu. 1 ≤ length psdu.items) }
+    ensures most { IfOk result (λ psdu. length psdu.items ≤ 4095) }
+    ensures end { IfOk result (λ _. IsAtEnd (S.left source.new)) }
+    ensures read_at_most { GivesAtMost 4096 (S.left source.old) (S.left source.new) }
+    ensures outcome { IfErr result (λ refusal. IsDecided (status_of refusal)
+        → IfSome (S.left source.old) (λ bytes. (answer : List ℕ → List ℕ) → Refuses refusal ≡ psdu_outcome answer bytes)) }
+    ensures kind { IfErr result (λ refusal. (refusal ≢ Refusal.Words) × (refusal ≢ Refusal.WriteFault)) }
+    ensures read_fault { IsErrOf result Refusal.ReadFault → Rose (S.faults source.old) (S.faults source.new) }
+{
+    let psdu = match read_all(alloc, source, 4095) {
+        Ok(psdu) => psdu,
+        Err(ReadAllFault::Long) => return Err(Refusal::LongPsdu),
+        Err(ReadAllFault::Failed) => return Err(Refusal::ReadFault),
+        Err(ReadAllFault::NoMemory(_)) => return Err(Refusal::NoMemory),
+    };
+    if psdu.is_empty() {
+        return Err(Refusal::EmptyPsdu);
+    }
+    Ok(psdu)
+}

@@ -1,0 +1,107 @@
+//! The words of the command line.
+ghost use Rattle.std.specs.Prelude.{◌≡◌, ◌<◌, ◌^◌, [], ◌∷◌, codes, decimal, map, string_bytes, IfSome, IfNone};
+ghost use Rattle.modem_cli.specs.Grammar.{IsSeed, NamesNoRate, NamesNoStage, NumbersNoSeed, Say, SayNothing, WritesNoNumber, stage_word};
+ghost use Rattle.rate_table.specs.Table.{row_of};
+
+use itoa::Buffer;
+use ofdm_scrambler::Seed;
+use rate_table::Rate;
+
+/// A stage of the transmitter, whose text `show` writes (own).
+#[derive(Clone, Copy, Debug, PartialEq, Eq)]
+pub enum Stage {
+    /// The bits of the DATA field.
+    Scrambled,
+    /// Its code before puncturing.
+    Coded,
+    /// Its kept code.
+    Kept,
+    /// The bits of all its symbols after interleaving.
+    Interleaved,
+}
+
+/// What the words ask for (own).
+#[derive(Clone, Copy, Debug, PartialEq, Eq)]
+pub enum Command {
+    /// `bits RATE SEED`
+    Bits { rate: Rate, seed: Seed },
+    /// `show STAGE RATE SEED`
+    Show { stage: Stage, rate: Rate, seed: Seed },
+}
+
+/// The command that the words say, without the program's name: `None` exactly where they say none. Takes no memory.
+pub fn read_words(words: &Vec<String>) -> Option<Command>
+    ensures command { IfSome result (Say (map string_bytes words.now.items)) }
+    ensures none { IfNone result (SayNothing (map string_bytes words.now.items)) }
+{
+    match words.as_slice() {
+        [name, rate, seed] if name.as_str() == "bits" => read_bits(rate.as_str(), seed.as_str()),
+        [name, stage, rate, seed] if name.as_str() == "show" => {
+            read_show(stage.as_str(), rate.as_str(), seed.as_str())
+        }
+        _ => None,
+    }
+}
+
+/// The command `bits` with these words behind it.
+fn read_bits(rate: &str, seed: &str) -> Option<Command>
+    ensures command { IfSome result (Say (codes "bits" ∷ rate.now ∷ seed.now ∷ [])) }
+    ensures none { IfNone result (SayNothing (codes "bits" ∷ rate.now ∷ seed.now ∷ [])) }
+{
+    let rate = read_rate(rate)?;
+    let seed = read_seed(seed)?;
+    Some(Command::Bits { rate, seed })
+}
+
+/// The command `show` with these words behind it.
+fn read_show(stage: &str, rate: &str, seed: &str) -> Option<Command>
+    ensures command { IfSome result (Say (codes "show" ∷ stage.now ∷ rate.now ∷ seed.now ∷ [])) }
+    ensures none { IfNone result (SayNothing (codes "show" ∷ stage.now ∷ rate.now ∷ seed.now ∷ [])) }
+{
+    let stage = read_stage(stage)?;
+    let rate = read_rate(rate)?;
+    let seed = read_seed(seed)?;
+    Some(Command::Show { stage, rate, seed })
+}
+
+/// The rate that a word names in megabits a second.
+fn read_rate(word: &str) -> Option<Rate>
+    ensures rate { IfSome result (λ rate. word.now ≡ decimal (row_of rate).mbps) }
+    ensures none { IfNone result (NamesNoRate word.now) }
+{
+    Rate::from_mbps(read_number(word)?)
+}
+
+/// The seed that a word numbers, 1 to 127.
+fn read_seed(word: &str) -> Option<Seed>
+    ensures seed { IfSome result (λ seed. word.now ≡ decimal seed) }
+    ensures range { IfSome result IsSeed }
+    ensures none { IfNone result (NumbersNoSeed word.now) }
+{
+    Seed::new(u8::try_from(read_number(word)?).ok()?)
+}
+
+/// The stage that a word names.
+fn read_stage(word: &str) -> Option<Stage>
+    ensures stage { IfSome result (λ stage. word.now ≡ stage_word stage) }
+    ensures none { IfNone result (NamesNoStage word.now) }
+{
+    match word {
+        "scrambled" => Some(Stage::Scrambled),
+        "coded" => Some(Stage::Coded),
+        "kept" => Some(Stage::Kept),
+        "interleaved" => Some(Stage::Interleaved),
+        _ => None,
+    }
+}
+
+/// The number that a word writes in decimal, with no sign and no leading zero.
+fn read_number(word: &str) -> Option<u32>
+    ensures number { IfSome result (λ number. word.now ≡ decimal number) }
+    ensures fits { IfSome result (λ number. number < 2 ^ 32) }
+    ensures none { IfNone result (WritesNoNumber word.now) }
+{
+    let number = word.parse::<u32>().ok()?;
+    let mut buffer = Buffer::new();
+    (buffer.format(number) == word).then_some(number)
+}

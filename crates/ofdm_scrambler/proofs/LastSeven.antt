@@ -1,0 +1,89 @@
+-- A register of the last seven bits of the sequence.
+use Rattle.std.proofs.Common.{◌≡◌, ℕ, zero, suc, ◌+◌, ◌*◌, ◌%◌, ◌<◌, List, map, length, slice_index, bit_xor, refl, arith}
+use Rattle.std.specs.List.{range_with_len}
+use Rattle.std.proofs.lemmas.List.FromFn.{length-map-range_with_len, get_or-map-range_with_len}
+use Rattle.bit_lists.specs.Bits.{bit_of, exclusive_or, IsBit, AreBits}
+use Rattle.ofdm_scrambler.specs.Sequence.{from_minus_seven, scrambler_bit, scrambler_sequence, scrambled}
+
+-- what holds of each value of a function holds of each element of its list
+All-map-range_with_len : (f : ℕ → ℕ) (count : ℕ) → ((n : ℕ) → IsBit (f n)) → AreBits (map f (range_with_len 0 count))
+All-map-range_with_len f count each =
+    λ k d within. let inside : k < count = omega (arith, length-map-range_with_len f 0 count) in rw (get_or-map-range_with_len f 0 count k k d inside (omega arith)) (each k)
+
+-- the register holds the seven bits before place n: bit j is z(n - 1 - j)
+pub record HoldsBefore (number n register : ℕ) : Type 0 where
+  pub one_ago : bit_of register 0 ≡ from_minus_seven number (n + 6)
+  pub two_ago : bit_of register 1 ≡ from_minus_seven number (n + 5)
+  pub three_ago : bit_of register 2 ≡ from_minus_seven number (n + 4)
+  pub four_ago : bit_of register 3 ≡ from_minus_seven number (n + 3)
+  pub five_ago : bit_of register 4 ≡ from_minus_seven number (n + 2)
+  pub six_ago : bit_of register 5 ≡ from_minus_seven number (n + 1)
+  pub seven_ago : bit_of register 6 ≡ from_minus_seven number n
+
+-- the recurrence, at a place written as a sum
+pub scrambler_bit_is : (number n : ℕ) → scrambler_bit number n ≡ exclusive_or (from_minus_seven number n) (from_minus_seven number (n + 3))
+unfolding from_minus_seven
+scrambler_bit_is number n =
+    let seven : suc (suc (suc (suc (suc (suc (suc n)))))) ≡ n + 7 = omega arith in
+    let three : suc (suc (suc n)) ≡ n + 3 = omega arith in
+    rw (← seven, ← three)
+
+-- before place 0 stands the number itself
+pub HoldsBefore-start : (number : ℕ) → HoldsBefore number 0 number
+unfolding from_minus_seven
+HoldsBefore-start number = record {
+  one_ago = refl;
+  two_ago = refl;
+  three_ago = refl;
+  four_ago = refl;
+  five_ago = refl;
+  six_ago = refl;
+  seven_ago = refl;
+}
+
+-- the bit that a register makes is the bit of its place
+pub next_bit_is : (number n register bit : ℕ) → HoldsBefore number n register → bit ≡ exclusive_or (bit_of register 6) (bit_of register 3) → bit ≡ scrambler_bit number n
+next_bit_is number n register bit held made = rw (scrambler_bit_is, ← held.seven_ago, ← held.four_ago) made
+
+-- each bit of the sequence is a bit
+pub IsBit-scrambler_bit : (number n : ℕ) → IsBit (scrambler_bit number n)
+IsBit-scrambler_bit number n = rw scrambler_bit_is (omega arith)
+
+-- a register that takes in the bit of its place holds the seven bits before the next place
+pub HoldsBefore-more : (number n register bit next : ℕ) → HoldsBefore number n register → register < 128 → bit ≡ scrambler_bit number n → next ≡ (2 * register + bit) % 128 → HoldsBefore number (n + 1) next
+HoldsBefore-more number n register bit next held seven is shifted =
+    let small : bit < 2 = rw is (IsBit-scrambler_bit number n) in
+    let last : n + 1 + 6 ≡ n + 7 = omega arith in
+    let sixth : n + 1 + 5 ≡ n + 6 = omega arith in
+    let fifth : n + 1 + 4 ≡ n + 5 = omega arith in
+    let fourth : n + 1 + 3 ≡ n + 4 = omega arith in
+    let third : n + 1 + 2 ≡ n + 3 = omega arith in
+    let second : n + 1 + 1 ≡ n + 2 = omega arith in
+    record {
+      one_ago = rw (last, ← is) (omega arith);
+      two_ago = rw (sixth, ← held.one_ago) (omega arith);
+      three_ago = rw (fifth, ← held.two_ago) (omega arith);
+      four_ago = rw (fourth, ← held.three_ago) (omega arith);
+      five_ago = rw (third, ← held.four_ago) (omega arith);
+      six_ago = rw (second, ← held.five_ago) (omega arith);
+      seven_ago = rw (← held.six_ago) (omega arith);
+    }
+
+-- the sequence is a list of bits
+pub AreBits-scrambler_sequence : (number count : ℕ) → AreBits (scrambler_sequence number count)
+AreBits-scrambler_sequence number count =
+    All-map-range_with_len (scrambler_bit number) count (IsBit-scrambler_bit number)
+
+-- so is a scrambled list
+pub AreBits-scrambled : (number : ℕ) (bits : List ℕ) → AreBits (scrambled number bits)
+AreBits-scrambled number bits =
+    All-map-range_with_len (λ n. exclusive_or (slice_index bits n) (scrambler_bit number n)) (length bits) (λ n. omega arith)
+
+-- one bit `^` another
+pub bit_xor_is : (a b : ℕ) → a < 2 → b < 2 → bit_xor a b ≡ exclusive_or a b
+bit_xor_is zero zero p q = refl
+bit_xor_is zero (suc zero) p q = refl
+bit_xor_is (suc zero) zero p q = refl
+bit_xor_is (suc zero) (suc zero) p q = refl
+bit_xor_is (suc (suc a)) b p q = absurd (omega arith)
+bit_xor_is a (suc (suc b)) p q = absurd (omega arith)
