@@ -4,7 +4,7 @@ use Rattle.std.specs.List.{range_with_len}
 use Rattle.std.proofs.lemmas.Bool.{cases_lt}
 use Rattle.std.proofs.lemmas.List.{length-take-le, get_or-take, get_or_past}
 use Rattle.std.proofs.lemmas.List.Elements.{All-from_get_or}
-use Rattle.std.proofs.lemmas.List.FromFn.{fill_by_all, get_or-map-range_with_len}
+use Rattle.std.proofs.lemmas.List.FromFn.{fill_by_all, length-map-range_with_len, get_or-map-range_with_len}
 use Rattle.bit_lists.specs.Bits.{IsBit, AreBits}
 use Rattle.rate_table.specs.declared.Rate.{Rate}
 use Rattle.rate_table.specs.declared.Rate.TheVariants.{R6, R9, R12, R18, R24, R36, R48, R54}
@@ -63,3 +63,22 @@ pub slice_index-zeros : (n m : ℕ) → slice_index (replicate n 0) m ≡ 0
 slice_index-zeros zero m = refl
 slice_index-zeros (suc n) zero = refl
 slice_index-zeros (suc n) (suc m) = slice_index-zeros n m
+
+-- two lists by place that agree at each place
+map-agree : (f g : ℕ → ℕ) (n : ℕ) → ((k : ℕ) → k < n → f k ≡ g k) → map f (range_with_len 0 n) ≡ map g (range_with_len 0 n)
+map-agree f g n same =
+    fill_by_all g (map f (range_with_len 0 n)) n 0 (length-map-range_with_len f 0 n)
+    (λ k below. get_or-map-range_with_len f 0 n k k 0 below (omega arith) ∙ same k below)
+
+-- the entries behind a symbol's play no part
+pub interleaved-take : (rate : Rate) (bits : List ℕ) → interleaved rate bits ≡ interleaved rate (take (row_of rate).coded_bits bits)
+interleaved-take rate bits =
+    let n = (row_of rate).coded_bits in
+    map-agree (λ j. slice_index bits (source_of rate j)) (λ j. slice_index (take n bits) (source_of rate j)) n
+    (λ j below. sym (get_or-take n bits (source_of rate j) 0 (source_of-lt rate j below)))
+
+pub deinterleaved-take : (rate : Rate) (bits : List ℕ) → deinterleaved rate bits ≡ deinterleaved rate (take (row_of rate).coded_bits bits)
+deinterleaved-take rate bits =
+    let n = (row_of rate).coded_bits in
+    map-agree (λ k. slice_index bits (place_of rate k)) (λ k. slice_index (take n bits) (place_of rate k)) n
+    (λ k below. sym (get_or-take n bits (place_of rate k) 0 (place_of-lt rate k below)))

@@ -32,7 +32,7 @@ pub fn unplace(rate: Rate, j: usize) -> usize
     first_source(rate, second_source(rate, j))
 }
 
-/// A symbol's bits, each at the place to which it goes.
+/// A symbol's bits, each at the place to which it goes. The entries behind them play no part.
 pub fn interleave(rate: Rate, bits: &[u8; 288]) -> [u8; 288]
     requires { AreBits bits.now }
     ensures by_place { (k : ℕ) → k < (row_of rate).coded_bits → slice_index result (place_of rate k) ≡ slice_index bits.now k }
@@ -40,6 +40,7 @@ pub fn interleave(rate: Rate, bits: &[u8; 288]) -> [u8; 288]
     ensures list { take (row_of rate).coded_bits result ≡ interleaved rate bits.now }
     ensures bits { AreBits result }
     ensures undone { deinterleaved rate result ≡ take (row_of rate).coded_bits bits.now }
+    ensures front { interleaved rate bits.now ≡ interleaved rate (take (row_of rate).coded_bits bits.now) }
     ensures law { deinterleaved rate (interleaved rate bits.now) ≡ take (row_of rate).coded_bits bits.now }
 {
     let mut places = [0; 288];
@@ -49,7 +50,7 @@ pub fn interleave(rate: Rate, bits: &[u8; 288]) -> [u8; 288]
     places
 }
 
-/// A symbol's interleaved bits, brought back into the order of the code.
+/// A symbol's interleaved bits, brought back into the order of the code. The entries behind them play no part.
 pub fn deinterleave(rate: Rate, bits: &[u8; 288]) -> [u8; 288]
     requires { AreBits bits.now }
     ensures by_place { (k : ℕ) → k < (row_of rate).coded_bits → slice_index result k ≡ slice_index bits.now (place_of rate k) }
@@ -57,6 +58,7 @@ pub fn deinterleave(rate: Rate, bits: &[u8; 288]) -> [u8; 288]
     ensures list { take (row_of rate).coded_bits result ≡ deinterleaved rate bits.now }
     ensures bits { AreBits result }
     ensures undone { interleaved rate result ≡ take (row_of rate).coded_bits bits.now }
+    ensures front { deinterleaved rate bits.now ≡ deinterleaved rate (take (row_of rate).coded_bits bits.now) }
     ensures law { interleaved rate (deinterleaved rate bits.now) ≡ take (row_of rate).coded_bits bits.now }
 {
     let mut order = [0; 288];

@@ -10,7 +10,7 @@ ghost use Rattle.puncture_map.specs.WholeSymbols.{CountsWholeSymbols, LeavesWhol
 use rate_table::CodeRate;
 use std::alloc::{AllocError, Global};
 
-/// Whether a place of the code is kept, that is sent. Takes no memory.
+/// Whether a place of the code is kept, that is sent (IEEE Std 802.11-2012, 18.3.5.6). Takes no memory.
 pub fn kept(rate: CodeRate, place: usize) -> bool
     ensures { result ≡ is_kept rate place }
 {
@@ -21,7 +21,7 @@ pub fn kept(rate: CodeRate, place: usize) -> bool
     }
 }
 
-/// The number of kept places of the first so many steps, at most 2^20: those below twice that number. Takes no memory.
+/// The number of kept places of the first so many steps, at most 2^20: those below twice that number (own). Takes no memory.
 pub fn kept_before(rate: CodeRate, steps: usize) -> usize
     requires { steps ≤ 2 ^ 20 }
     ensures count { result ≡ kept_count rate steps }
@@ -31,7 +31,7 @@ pub fn kept_before(rate: CodeRate, steps: usize) -> usize
     steps + steps.div_ceil(period(rate))
 }
 
-/// The kept bits of a code of at most 2^20 bits, in order. The only error is want of memory.
+/// The kept bits of a code of at most 2^20 bits, in order (IEEE Std 802.11-2012, 18.3.5.6). The only error is want of memory.
 pub fn puncture(alloc: Global, rate: CodeRate, code: &[u8]) -> Result<Vec<u8>, AllocError>
     requires short { length code.now ≤ 2 ^ 20 }
     requires bits { AreBits code.now }

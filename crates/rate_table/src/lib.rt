@@ -37,7 +37,7 @@ pub enum Rate {
 }
 
 impl Rate {
-    /// The rate of so many megabits a second; `None` exactly where no rate has that number.
+    /// The rate of so many megabits a second (IEEE Std 802.11-2012, 18.3.2.3); `None` exactly where no rate has that number.
     pub fn from_mbps(mbps: u32) -> Option<Rate>
         ensures named { IfSome result (λ rate. (row_of rate).mbps ≡ mbps) }
         ensures no_rate { IfNone result ((rate : Rate) → (row_of rate).mbps ≢ mbps) }
@@ -93,7 +93,7 @@ impl Rate {
         }
     }
 
-    /// Megabits a second.
+    /// Megabits a second (IEEE Std 802.11-2012, 18.3.2.3).
     pub fn mbps(self) -> u32
         ensures { result ≡ (row_of self).mbps }
     {
@@ -126,7 +126,7 @@ impl Rate {
         }
     }
 
-    /// The modulation of the data carriers.
+    /// The modulation of the data carriers (IEEE Std 802.11-2012, 18.3.2.3).
     pub fn modulation(self) -> Modulation
         ensures { result ≡ (row_of self).modulation }
     {
@@ -138,7 +138,7 @@ impl Rate {
         }
     }
 
-    /// The code rate after puncturing.
+    /// The code rate after puncturing (IEEE Std 802.11-2012, 18.3.2.3).
     pub fn code_rate(self) -> CodeRate
         ensures { result ≡ (row_of self).code_rate }
     {
@@ -149,7 +149,7 @@ impl Rate {
         }
     }
 
-    /// N_BPSC: coded bits of a carrier.
+    /// N_BPSC: the coded bits of a carrier, 1 to 6 (IEEE Std 802.11-2012, 18.3.2.3).
     pub fn bits_per_carrier(self) -> usize
         ensures { result ≡ (row_of self).bits_per_carrier }
     {
@@ -161,14 +161,14 @@ impl Rate {
         }
     }
 
-    /// N_CBPS: coded bits of a symbol, which has 48 data carriers.
+    /// N_CBPS: the coded bits of a symbol, which has 48 data carriers (IEEE Std 802.11-2012, 18.3.2.3).
     pub fn coded_bits(self) -> usize
         ensures { result ≡ (row_of self).coded_bits }
     {
         48 * self.bits_per_carrier()
     }
 
-    /// N_DBPS: bits of the DATA field in a symbol.
+    /// N_DBPS: the bits of the DATA field in a symbol (IEEE Std 802.11-2012, 18.3.2.3).
     pub fn field_bits(self) -> usize
         ensures { result ≡ (row_of self).field_bits }
     {

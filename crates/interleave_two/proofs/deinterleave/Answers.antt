@@ -1,7 +1,7 @@
 use Rattle.std.proofs.Common.{◌<◌, slice_index, refl, arith}
 use Rattle.rate_table.specs.Table.{row_of}
 use Rattle.interleave_two.specs.Place.{place_of}
-use Rattle.interleave_two.proofs.ByPlace.{take-by_place, interleaved-by_place, interleaved-deinterleaved, AreBits-by_place, coded_bits-le, slice_index-zeros}
+use Rattle.interleave_two.proofs.ByPlace.{take-by_place, interleaved-by_place, interleaved-deinterleaved, AreBits-by_place, coded_bits-le, slice_index-zeros, deinterleaved-take}
 use Rattle.interleave_two.proofs.deinterleave.Goals as goal
 
 pub loop-k-init : goal.loop-k-init
@@ -31,3 +31,6 @@ returns-clause-undone c =
 
 pub returns-clause-law : goal.returns-clause-law
 returns-clause-law c = interleaved-deinterleaved c.args.rate c.args.bits.now (omega (arith, coded_bits-le c.args.rate))
+
+pub returns-clause-front : goal.returns-clause-front
+returns-clause-front c = deinterleaved-take c.args.rate c.args.bits.now

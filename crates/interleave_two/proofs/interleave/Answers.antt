@@ -2,7 +2,7 @@ use Rattle.std.proofs.Common.{◌<◌, slice_index, ap, ◌∙◌, refl, arith}
 use Rattle.rate_table.specs.Table.{row_of}
 use Rattle.interleave_two.specs.Place.{place_of, source_of}
 use Rattle.interleave_two.proofs.Ways.{place_of-lt, source_of-place_of}
-use Rattle.interleave_two.proofs.ByPlace.{take-by_place, deinterleaved-by_place, deinterleaved-interleaved, AreBits-by_place, coded_bits-le, slice_index-zeros}
+use Rattle.interleave_two.proofs.ByPlace.{take-by_place, deinterleaved-by_place, deinterleaved-interleaved, AreBits-by_place, coded_bits-le, slice_index-zeros, interleaved-take}
 use Rattle.interleave_two.proofs.interleave.Goals as goal
 
 pub loop-j-init : goal.loop-j-init
@@ -38,3 +38,6 @@ returns-clause-undone c =
 
 pub returns-clause-law : goal.returns-clause-law
 returns-clause-law c = deinterleaved-interleaved c.args.rate c.args.bits.now (omega (arith, coded_bits-le c.args.rate))
+
+pub returns-clause-front : goal.returns-clause-front
+returns-clause-front c = interleaved-take c.args.rate c.args.bits.now
