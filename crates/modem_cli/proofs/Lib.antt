@@ -5,3 +5,4 @@ pub mod Outcomes
 pub mod Ranges
 pub mod Refused
 pub mod Decided
+pub mod Symbols

@@ -1,9 +1,10 @@
 //! The DATA field of a frame, and what becomes of its bits.
-ghost use Rattle.std.specs.Prelude.{◌≡◌, ◌*◌, ◌≤◌, ◌++◌, length, vec_len, IfOk, OnOk};
+ghost use Rattle.std.specs.Prelude.{◌≡◌, ◌+◌, ◌*◌, ◌≤◌, ◌++◌, length, take, vec_len, IfOk, OnOk};
 ghost use Rattle.bit_lists.specs.Bits.{AreBits};
 ghost use Rattle.rate_table.specs.Table.{row_of};
 ghost use Rattle.rate_table.specs.Symbols.{symbol_count};
-ghost use Rattle.data_field.specs.Field.{field_length};
+ghost use Rattle.data_field.specs.Field.{field_length, plain_field, with_tail};
+ghost use Rattle.ofdm_scrambler.specs.Sequence.{scrambled};
 ghost use Rattle.data_field.specs.Stages.{field_at, code_at, kept_at, interleaved_at};
 ghost use Rattle.interleave_two.specs.Place.{interleaved};
 
@@ -35,14 +36,48 @@ pub fn frame_field(
     ensures len { IfOk result (λ field. vec_len field ≡ field_length (row_of rate).field_bits (length psdu.now)) }
     ensures short { IfOk result (λ field. vec_len field ≤ 33000) }
 {
-    let octets = bits_of(alloc, psdu)?;
-    let tail = SERVICE_BITS + octets.len();
-    let symbols = rate.symbols(psdu.len() as u16) as usize;
-    let mut field = vec![in alloc; 0; symbols * rate.field_bits()]?;
-    field[SERVICE_BITS..tail].copy_from_slice(&octets);
-    scramble_in_place(seed, &mut field);
-    field[tail..tail + TAIL_BITS].fill(0);
+    let mut field = unscrambled_field(alloc, rate, psdu)?;
+    scramble_field(&mut field, seed, SERVICE_BITS + 8 * psdu.len());
     Ok(field)
+}
+
+/// The field before scrambling: SERVICE, the PSDU, and zeros to the end.
+fn unscrambled_field(alloc: Global, rate: Rate, psdu: &[u8]) -> Result<Vec<u8>, AllocError>
+    requires some { 1 ≤ length psdu.now }
+    requires most { length psdu.now ≤ 4095 }
+    ensures field { IfOk result (λ field. field.items ≡ plain_field (row_of rate).field_bits psdu.now) }
+    ensures bits { IfOk result (λ field. AreBits field.items) }
+    ensures len { IfOk result (λ field. vec_len field ≡ field_length (row_of rate).field_bits (length psdu.now)) }
+    ensures long { IfOk result (λ field. 22 + 8 * length psdu.now ≤ vec_len field) }
+    ensures short { IfOk result (λ field. vec_len field ≤ 33000) }
+{
+    let octets = bits_of(alloc, psdu)?;
+    let symbols = rate.symbols(psdu.len() as u16) as usize;
+    let mut field = vec![in alloc; 0; SERVICE_BITS]?;
+    field.extend_from_slice(&octets)?;
+    field.resize(symbols * rate.field_bits(), 0)?;
+    Ok(field)
+}
+
+/// Scrambles a field, and then sets its tail, at a place, to 0.
+fn scramble_field(field: &mut [u8], seed: Seed, tail: usize)
+    requires bits { AreBits field.old }
+    requires tail_in { tail + 6 ≤ length field.old }
+    ensures field { field.new ≡ with_tail tail (scrambled seed field.old) }
+    ensures bits { AreBits field.new }
+{
+    scramble_in_place(seed, field);
+    clear_tail(field, tail);
+}
+
+/// Sets the six tail bits from a place on to 0.
+fn clear_tail(bits: &mut [u8], place: usize)
+    requires bits { AreBits bits.old }
+    requires tail_in { place + 6 ≤ length bits.old }
+    ensures tail { bits.new ≡ with_tail place bits.old }
+    ensures bits { AreBits bits.new }
+{
+    bits[place..place + TAIL_BITS].fill(0);
 }
 
 /// The field's code before puncturing.
@@ -110,10 +145,19 @@ fn push_interleaved(bits: &mut Vec<u8>, rate: Rate, symbol: &[u8]) -> Result<(),
     ensures appended { OnOk result (bits.new.items ≡ bits.old.items ++ interleaved rate symbol.now) }
     ensures bits { AreBits bits.old.items → OnOk result (AreBits bits.new.items) }
 {
-    let mut entries = [0; 288];
-    let coded_bits = symbol.len();
-    entries[..coded_bits].copy_from_slice(symbol);
-    let places = interleave(rate, &entries);
-    bits.extend_from_slice(&places[..coded_bits])?;
+    let places = interleave(rate, &entries_of(symbol));
+    bits.extend_from_slice(&places[..symbol.len()])?;
     Ok(())
+}
+
+/// The bits of a symbol, and 0 behind them.
+fn entries_of(symbol: &[u8]) -> [u8; 288]
+    requires short { length symbol.now ≤ 288 }
+    requires bits { AreBits symbol.now }
+    ensures front { take (length symbol.now) result ≡ symbol.now }
+    ensures bits { AreBits result }
+{
+    let mut entries = [0; 288];
+    entries[..symbol.len()].copy_from_slice(symbol);
+    entries
 }

@@ -1,24 +1,16 @@
-use Rattle.std.proofs.Common.{rules, ◌≡◌, ◌*◌, ◌≤◌, ◌++◌, length, vec_len, IfOk, OnOk, ℕ, ◌+◌, ◌-◌, ◌<◌, ◌/◌, ◌%◌, Bool, true, false, nat_eq, nat_lt, List, [], ◌∷◌, slice_index_or, slice_set, bit_and, bit_or, Fits, w8, w32, w64, Bor, MutBor}
-use Rattle.bit_lists.specs.Bits.{AreBits}
+use Rattle.std.proofs.Common.{◌*◌, ◌∙◌, ap, take, drop}
 use Rattle.rate_table.specs.Table.{row_of}
-use Rattle.rate_table.specs.Symbols.{symbol_count}
-use Rattle.data_field.specs.Field.{field_length}
-use Rattle.data_field.specs.Stages.{field_at, code_at, kept_at, interleaved_at}
-use Rattle.interleave_two.specs.Place.{interleaved}
+use Rattle.modem_cli.proofs.Symbols.{symbol_appended, part_is}
 use Rattle.modem_cli.proofs.field.interleaved_code.Goals as goal
 
--- src/field.rt:99:5
-pub loop-m-init : goal.loop-m-init
-loop-m-init c = ?
-
--- src/field.rt:99:5
 pub loop-m-preserved : goal.loop-m-preserved
-loop-m-preserved c = ?
-
--- src/field.rt:84:1
-pub returns-clause-interleaved : goal.returns-clause-interleaved
-returns-clause-interleaved c = ?
-
--- src/field.rt:84:1
-pub returns-clause-bits : goal.returns-clause-bits
-returns-clause-bits c = ?
+loop-m-preserved c = record {
+  so_far =
+      let part = part_is c.in_ok-kept.kept.items c.deref.result.now (c.loop-m.m * c.coded_bits-coded_bits.result) c.coded_bits-coded_bits.result (row_of c.args.rate).coded_bits
+          c.deref.ensures.value c.coded_bits-coded_bits.ensures in
+      symbol_appended c.args.rate c.in_ok-kept.kept.items c.loop-m.bits.items c.push_interleaved.new.bits.items _ c.loop-m.m
+          c.loop-m.invariant.so_far
+          (part ∙ ap (λ n. take (row_of c.args.rate).coded_bits (drop (c.loop-m.m * n) c.in_ok-kept.kept.items)) c.coded_bits-coded_bits.ensures)
+          c.in_ok-push_interleaved.ensures.appended;
+  bits = c.in_ok-push_interleaved.ensures.bits c.loop-m.invariant.bits;
+}

@@ -1,11 +1,10 @@
-use Rattle.std.proofs.Common.{◌≡◌, ◌*◌, ◌≤◌, ◌++◌, length, vec_len, IfOk, OnOk, ℕ, ◌+◌, ◌-◌, ◌<◌}
+use Rattle.std.proofs.Common.{◌≡◌}
 use Rattle.bit_lists.specs.Bits.{AreBits}
-use Rattle.rate_table.specs.Table.{row_of}
-use Rattle.rate_table.specs.Symbols.{symbol_count}
-use Rattle.data_field.specs.Field.{field_length}
-use Rattle.data_field.specs.Stages.{field_at, code_at, kept_at, interleaved_at}
-use Rattle.interleave_two.specs.Place.{interleaved}
+use Rattle.interleave_two.specs.Place.{interleaved_symbols}
 use Rattle.modem_cli.proofs.field.interleaved_code.Given as goal
 
 abbrev pub invariant-loop-m : goal.invariant-loop-m
-invariant-loop-m l = ?
+invariant-loop-m l = record {
+  so_far : l.bits.items ≡ interleaved_symbols l.rate l.m l.kept.items;
+  bits : AreBits l.bits.items;
+}

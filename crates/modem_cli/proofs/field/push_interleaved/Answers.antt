@@ -1,20 +1,7 @@
-use Rattle.std.proofs.Common.{rules, ◌≡◌, ◌*◌, ◌≤◌, ◌++◌, length, vec_len, IfOk, OnOk, ℕ, ◌+◌, ◌-◌, ◌<◌, ◌/◌, ◌%◌, Bool, true, false, nat_eq, nat_lt, List, [], ◌∷◌, slice_index_or, slice_set, bit_and, bit_or, Fits, w8, w32, w64, Bor, MutBor}
-use Rattle.bit_lists.specs.Bits.{AreBits}
-use Rattle.rate_table.specs.Table.{row_of}
-use Rattle.rate_table.specs.Symbols.{symbol_count}
-use Rattle.data_field.specs.Field.{field_length}
-use Rattle.data_field.specs.Stages.{field_at, code_at, kept_at, interleaved_at}
-use Rattle.interleave_two.specs.Place.{interleaved}
+use Rattle.std.proofs.lemmas.List.Elements.{All-append, All-take}
+use Rattle.bit_lists.specs.Bits.{IsBit}
 use Rattle.modem_cli.proofs.field.push_interleaved.Goals as goal
 
--- src/field.rt:116:18
-pub interleave-places-requires : goal.interleave-places-requires
-interleave-places-requires c = ?
-
--- src/field.rt:107:1
-pub returns-clause-appended : goal.returns-clause-appended
-returns-clause-appended c = ?
-
--- src/field.rt:107:1
 pub returns-clause-bits : goal.returns-clause-bits
-returns-clause-bits c = ?
+returns-clause-bits c = λ old.
+    rw c.in_ok-extend_from_slice.ensures.items (All-append IsBit _ _ old (All-take IsBit _ _ c.interleave-places.ensures.bits))

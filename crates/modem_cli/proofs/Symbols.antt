@@ -1,0 +1,33 @@
+-- The interleaved bits of one symbol more.
+use Rattle.std.proofs.Common.{◌≡◌, ◌+◌, ◌-◌, ◌*◌, ◌++◌, ◌∷◌, [], ℕ, List, take, drop, map, ap, sym, ◌∙◌, arith}
+use Rattle.std.proofs.lemmas.List.{flat_map_more, map-id}
+use Rattle.std.proofs.lemmas.List.FromFn.{map-range_with_len_more}
+use Rattle.std.specs.List.{flat_map, range_with_len}
+use Rattle.rate_table.specs.declared.Rate.{Rate}
+use Rattle.rate_table.specs.Table.{row_of}
+use Rattle.interleave_two.specs.Place.{interleaved, interleaved_symbols, symbol_bits}
+
+one_more : (n : ℕ) → range_with_len 0 (n + 1) ≡ range_with_len 0 n ++ n ∷ []
+one_more n =
+    sym (map-id (range_with_len 0 (n + 1))) ∙ map-range_with_len_more (λ k. k) 0 n n (omega arith)
+    ∙ ap (λ places. places ++ n ∷ []) (map-id (range_with_len 0 n))
+
+interleaved_symbols-more : (rate : Rate) (bits : List ℕ) (m : ℕ)
+    → interleaved_symbols rate (m + 1) bits ≡ interleaved_symbols rate m bits ++ interleaved rate (symbol_bits rate bits m)
+interleaved_symbols-more rate bits m =
+    let of_symbol : ℕ → List ℕ = λ m. interleaved rate (symbol_bits rate bits m) in
+    ap (flat_map of_symbol) (one_more m) ∙ sym (flat_map_more of_symbol [] (range_with_len 0 m) m)
+
+-- so after a symbol was appended, the answer has one more
+pub symbol_appended : (rate : Rate) (bits before after symbol : List ℕ) (m : ℕ)
+    → before ≡ interleaved_symbols rate m bits → symbol ≡ symbol_bits rate bits m → after ≡ before ++ interleaved rate symbol
+    → after ≡ interleaved_symbols rate (m + 1) bits
+symbol_appended rate bits before after symbol m so_far is appended =
+    appended ∙ ap (λ front. front ++ interleaved rate symbol) so_far ∙ ap (λ one. interleaved_symbols rate m bits ++ interleaved rate one) is
+    ∙ sym (interleaved_symbols-more rate bits m)
+
+-- the part of a list from a place on, so many long
+pub part_is : (bits items : List ℕ) (at count n : ℕ) → items ≡ bits → count ≡ n → take ((at + count) - at) (drop at items) ≡ take n (drop at bits)
+part_is bits items at count n same long =
+    let size : (at + count) - at ≡ n = omega arith in
+    ap (λ k. take k (drop at items)) size ∙ ap (λ list. take n (drop at list)) same
