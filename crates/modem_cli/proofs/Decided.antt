@@ -32,50 +32,60 @@ same_words xs ys = same_by_test xs ys (pointwise bytes_eq xs ys) (slice_eq-Decid
 none_to : (P : ℕ → Type 0) (bound : ℕ) → ((n : ℕ) → n < bound → P n → ⊥) → (P bound → ⊥) → (n : ℕ) → n < suc bound → P n → ⊥
 none_to P bound none not_here n low p =
     elim (cases_lt n bound) [
-        inl under ↦ none n under p
-      | inr over ↦ let at : n ≡ bound = omega arith in not_here (rw at at p) ]
+      | inl under ↦ none n under p
+      | inr over ↦ let at : n ≡ bound = omega arith in not_here (rw at at p)
+    ]
 
 some_below : (P : ℕ → Type 0) → ((n : ℕ) → Decided (P n)) → (bound : ℕ) → ((n : ℕ) × P n) ⊎ ((n : ℕ) → n < bound → P n → ⊥)
 some_below P decide zero = inr (λ n low p. omega arith)
 some_below P decide (suc bound) =
     elim (decide bound) [
-        inl p ↦ inl (bound, p)
+      | inl p ↦ inl (bound, p)
       | inr not_here ↦ elim (some_below P decide bound) [
-            inl found ↦ inl found
-          | inr none ↦ inr (none_to P bound none not_here) ] ]
+        | inl found ↦ inl found
+        | inr none ↦ inr (none_to P bound none not_here)
+      ]
+    ]
 
 -- a number is a seed or not
 seed_decided : (n : ℕ) → Decided (IsSeed n)
 seed_decided n =
     elim (cases_lt n 1) [
-        inl low ↦ inr (λ is. omega (arith, is.0))
+      | inl low ↦ inr (λ is. omega (arith, is.0))
       | inr some ↦ elim (cases_lt 127 n) [
-            inl high ↦ inr (λ is. omega (arith, is.1))
-          | inr most ↦ inl (some, most) ] ]
+        | inl high ↦ inr (λ is. omega (arith, is.1))
+        | inr most ↦ inl (some, most)
+      ]
+    ]
 
 -- a command whose one number is a seed is said or not
 said_with_seed : (words : List (List ℕ)) (make : ℕ → Command) → ((n : ℕ) → Decided (Say words (make n))) → ((n : ℕ) → Say words (make n) → n < 128)
     → Decided ((n : ℕ) × Say words (make n))
 said_with_seed words make decide small =
     elim (some_below (λ n. Say words (make n)) decide 128) [
-        inl found ↦ inl found
-      | inr none ↦ inr (λ found. none found.0 (small found.0 found.1) found.1) ]
+      | inl found ↦ inl found
+      | inr none ↦ inr (λ found. none found.0 (small found.0 found.1) found.1)
+    ]
 
 bits_at_seed : (words : List (List ℕ)) (rate : Rate) (n : ℕ) → Decided (Say words (Bits rate n))
 bits_at_seed words rate n =
     elim (seed_decided n) [
-        inr out ↦ inr (λ says. out says.in_range)
+      | inr out ↦ inr (λ says. out says.in_range)
       | inl in_range ↦ elim (same_words words (words_of (Bits rate n))) [
-            inl same ↦ inl (record { in_range = in_range; words_are = same })
-          | inr other ↦ inr (λ says. other says.words_are) ] ]
+        | inl same ↦ inl (record { in_range = in_range; words_are = same })
+        | inr other ↦ inr (λ says. other says.words_are)
+      ]
+    ]
 
 show_at_seed : (words : List (List ℕ)) (stage : Stage) (rate : Rate) (n : ℕ) → Decided (Say words (Show stage rate n))
 show_at_seed words stage rate n =
     elim (seed_decided n) [
-        inr out ↦ inr (λ says. out says.in_range)
+      | inr out ↦ inr (λ says. out says.in_range)
       | inl in_range ↦ elim (same_words words (words_of (Show stage rate n))) [
-            inl same ↦ inl (record { in_range = in_range; words_are = same })
-          | inr other ↦ inr (λ says. other says.words_are) ] ]
+        | inl same ↦ inl (record { in_range = in_range; words_are = same })
+        | inr other ↦ inr (λ says. other says.words_are)
+      ]
+    ]
 
 bits_at : (words : List (List ℕ)) (rate : Rate) → Decided ((n : ℕ) × Say words (Bits rate n))
 bits_at words rate = said_with_seed words (λ n. Bits rate n) (bits_at_seed words rate) (λ n says. omega (arith, says.in_range.1))
@@ -119,8 +129,9 @@ rate_at-index_of R54 = refl
 some_rate : (P : Rate → Type 0) → ((rate : Rate) → Decided (P rate)) → Decided ((rate : Rate) × P rate)
 some_rate P decide =
     elim (some_below (λ k. P (rate_at k)) (λ k. decide (rate_at k)) 8) [
-        inl found ↦ inl (rate_at found.0, found.1)
-      | inr none ↦ inr (λ found. none (index_of found.0) (index_below found.0) (subst P (sym (rate_at-index_of found.0)) found.1)) ]
+      | inl found ↦ inl (rate_at found.0, found.1)
+      | inr none ↦ inr (λ found. none (index_of found.0) (index_below found.0) (subst P (sym (rate_at-index_of found.0)) found.1))
+    ]
 
 -- some stage has a property, or none has
 no_stage : (P : Stage → Type 0) → (P Scrambled → ⊥) → (P Coded → ⊥) → (P Kept → ⊥) → (P Interleaved → ⊥) → (stage : Stage) → P stage → ⊥
@@ -132,14 +143,18 @@ no_stage P a b c d Interleaved p = d p
 some_stage : (P : Stage → Type 0) → ((stage : Stage) → Decided (P stage)) → Decided ((stage : Stage) × P stage)
 some_stage P decide =
     elim (decide Scrambled) [
-        inl p ↦ inl (Scrambled, p)
+      | inl p ↦ inl (Scrambled, p)
       | inr a ↦ elim (decide Coded) [
-            inl p ↦ inl (Coded, p)
-          | inr b ↦ elim (decide Kept) [
-                inl p ↦ inl (Kept, p)
-              | inr c ↦ elim (decide Interleaved) [
-                    inl p ↦ inl (Interleaved, p)
-                  | inr d ↦ inr (λ found. no_stage P a b c d found.0 found.1) ] ] ] ]
+        | inl p ↦ inl (Coded, p)
+        | inr b ↦ elim (decide Kept) [
+          | inl p ↦ inl (Kept, p)
+          | inr c ↦ elim (decide Interleaved) [
+            | inl p ↦ inl (Interleaved, p)
+            | inr d ↦ inr (λ found. no_stage P a b c d found.0 found.1)
+          ]
+        ]
+      ]
+    ]
 
 -- some `bits` is said or none, and some `show`
 some_bits : (words : List (List ℕ)) → Decided ((rate : Rate) × ((n : ℕ) × Say words (Bits rate n)))
@@ -148,7 +163,7 @@ some_bits words = some_rate (λ rate. (n : ℕ) × Say words (Bits rate n)) (bit
 some_show : (words : List (List ℕ)) → Decided ((stage : Stage) × ((rate : Rate) × ((n : ℕ) × Say words (Show stage rate n))))
 some_show words =
     some_stage (λ stage. (rate : Rate) × ((n : ℕ) × Say words (Show stage rate n)))
-        (λ stage. some_rate (λ rate. (n : ℕ) × Say words (Show stage rate n)) (show_at words stage))
+    (λ stage. some_rate (λ rate. (n : ℕ) × Say words (Show stage rate n)) (show_at words stage))
 
 nothing_said : (words : List (List ℕ)) → (((rate : Rate) × ((n : ℕ) × Say words (Bits rate n))) → ⊥)
     → (((stage : Stage) × ((rate : Rate) × ((n : ℕ) × Say words (Show stage rate n)))) → ⊥) → (command : Command) → Say words command → ⊥
@@ -168,10 +183,12 @@ outcome_where_said words bytes command says =
 pub some_outcome : (words : List (List ℕ)) (bytes : List ℕ) → (outcome : Outcome) × HasOutcome words bytes outcome
 some_outcome words bytes =
     elim (some_bits words) [
-        inl said ↦ outcome_where_said words bytes (Bits said.0 said.1.0) said.1.1
+      | inl said ↦ outcome_where_said words bytes (Bits said.0 said.1.0) said.1.1
       | inr no_bits ↦ elim (some_show words) [
-            inl said ↦ outcome_where_said words bytes (Show said.0 said.1.0 said.1.1.0) said.1.1.1
-          | inr no_show ↦ (Refuses Words, of_no_command (nothing_said words no_bits no_show) refl) ] ]
+        | inl said ↦ outcome_where_said words bytes (Show said.0 said.1.0 said.1.1.0) said.1.1.1
+        | inr no_show ↦ (Refuses Words, of_no_command (nothing_said words no_bits no_show) refl)
+      ]
+    ]
 
 -- and only one
 pub only_outcome : (words : List (List ℕ)) (bytes : List ℕ) (a b : Outcome) → HasOutcome words bytes a → HasOutcome words bytes b → a ≡ b

@@ -81,12 +81,7 @@ fn clear_tail(bits: &mut [u8], place: usize)
 }
 
 /// The field's code before puncturing.
-pub fn frame_code(
-    alloc: Global,
-    rate: Rate,
-    seed: Seed,
-    psdu: &[u8],
-) -> Result<Vec<u8>, AllocError>
+pub fn frame_code(alloc: Global, rate: Rate, seed: Seed, psdu: &[u8]) -> Result<Vec<u8>, AllocError>
     requires some { 1 ≤ length psdu.now }
     requires most { length psdu.now ≤ 4095 }
     ensures code { IfOk result (λ code. code.items ≡ code_at rate seed psdu.now) }
@@ -99,12 +94,7 @@ pub fn frame_code(
 }
 
 /// The kept code of the field.
-pub fn kept_code(
-    alloc: Global,
-    rate: Rate,
-    seed: Seed,
-    psdu: &[u8],
-) -> Result<Vec<u8>, AllocError>
+pub fn kept_code(alloc: Global, rate: Rate, seed: Seed, psdu: &[u8]) -> Result<Vec<u8>, AllocError>
     requires some { 1 ≤ length psdu.now }
     requires most { length psdu.now ≤ 4095 }
     ensures kept { IfOk result (λ kept. kept.items ≡ kept_at rate seed psdu.now) }

@@ -7,5 +7,4 @@ pub fn outcome_is_one()
     ensures some { (words : List (List ℕ)) (bytes : List ℕ) → (outcome : Outcome) × HasOutcome words bytes outcome }
     ensures only { (words : List (List ℕ)) (bytes : List ℕ) (a b : Outcome)
         → HasOutcome words bytes a → HasOutcome words bytes b → a ≡ b }
-{
-}
+{}

@@ -11,10 +11,9 @@ mod words;
 use modem_ports::{StdSink, StdSource, Steps};
 use program::run;
 use refusals::Status;
-use std::env;
 use std::env::Env;
-use std::io;
 use std::process::ExitCode;
+use std::{env, io};
 
 /// The code where the words of the command line can't be had for another cause than want of memory: that of no status.
 const NO_WORDS: u8 = 9;
@@ -31,7 +30,14 @@ fn main(rt: HostRuntime) -> ExitCode {
     let mut out = StdSink::new(rt.stdout());
     let mut report = StdSink::new(rt.stderr());
     let mut steps = Steps::new();
-    let status = run(rt.alloc(), &words, &mut source, &mut out, &mut report, &mut steps);
+    let status = run(
+        rt.alloc(),
+        &words,
+        &mut source,
+        &mut out,
+        &mut report,
+        &mut steps,
+    );
     ExitCode::from(status.code())
 }
 
@@ -39,3 +45,6 @@ fn main(rt: HostRuntime) -> ExitCode {
 fn words_after_name<R: Env + AllocGlobal>(rt: &R) -> io::Result<Vec<String>> {
     Ok(env::args(rt)?.skip(1).collect(rt.alloc())?)
 }
+
+#[cfg(test)]
+mod tests;

@@ -7,7 +7,7 @@ ghost use Rattle.modem_cli.specs.declared.refusals.Refusal.{Refusal};
 ghost use Rattle.modem_cli.specs.Grammar.{IsInRange, Say, SayNothing};
 ghost use Rattle.modem_cli.specs.Outcome.{Writes, Refuses, IfOutcome, CommandOutcome, AreRefused, IfWrites, IfRefuses, ReadsInput, input_limit, psdu_outcome, stage_text_of};
 ghost use Rattle.modem_cli.specs.Refusals.{status_of};
-ghost use Rattle.modem_cli.specs.Report.{IsDecided, IsReported, TakesAnswer, TakesAnswerPrefix};
+ghost use Rattle.modem_cli.specs.Report.{IsDecided, IsReported, TakesAnswer, TakesAnswerPrefix, TakesReport};
 
 use crate::refusals::{Refusal, Status, line_of};
 use crate::stages::stage_text;
@@ -52,20 +52,26 @@ pub fn run<S: Source, K: Sink, E: Sink>(
     ensures write_fault { result ≡ Status.WriteFault → Rose (K.faults out.old) (K.faults out.new) }
     ensures answers { ¬ Rose (S.faults source.old) (S.faults source.new) → ¬ Rose (K.faults out.old) (K.faults out.new)
         → IfOutcome (map string_bytes words.now.items) (S.left source.old)
-            (λ outcome. IfWrites outcome ((result ≡ Status.Ok) ⊎ (result ≡ Status.NoMemory))) }
+        (λ outcome. IfWrites outcome ((result ≡ Status.Ok) ⊎ (result ≡ Status.NoMemory))) }
     ensures refuses { ¬ Rose (S.faults source.old) (S.faults source.new)
         → IfOutcome (map string_bytes words.now.items) (S.left source.old)
-            (λ outcome. IfRefuses outcome (λ refusal. (result ≡ status_of refusal) ⊎ (result ≡ Status.NoMemory))) }
+        (λ outcome. IfRefuses outcome (λ refusal. (result ≡ status_of refusal) ⊎ (result ≡ Status.NoMemory))) }
 {
     match execute(alloc, words, source, out) {
         Ok(()) => Status::Ok,
-        Err(refusal) => {
-            let line = line_of(&refusal);
-            // Where the report can't be written, the status says what happened all the same.
-            let _ = write_all(report, line.as_slice());
-            refusal.status()
-        }
+        Err(refusal) => refuse(report, refusal),
     }
+}
+
+/// Reports a refusal, and answers its status. Where the report can't be written, the status is the same.
+fn refuse<E: Sink>(report: &mut E, refusal: Refusal) -> Status
+    ensures status { result ≡ status_of refusal }
+    ensures reported { TakesReport refusal (E.taken report.old) (E.taken report.new)
+        (Rose (E.faults report.old) (E.faults report.new)) }
+{
+    let line = line_of(&refusal);
+    let _ = write_all(report, line.as_slice());
+    refusal.status()
 }
 
 /// Does what the words ask for, or answers why not.
@@ -101,11 +107,7 @@ fn execute<S: Source, K: Sink>(
 }
 
 /// The bytes that a command writes.
-fn answer_of<S: Source>(
-    alloc: Global,
-    command: Command,
-    source: &mut S,
-) -> Result<Vec<u8>, Refusal>
+fn answer_of<S: Source>(alloc: Global, command: Command, source: &mut S) -> Result<Vec<u8>, Refusal>
     requires { IsInRange command }
     ensures ok { IfOk result (λ answer. IfSome (S.left source.old) (λ bytes. CommandOutcome command bytes (Writes answer.items))) }
     ensures end { IfOk result (λ _. IsAtEnd (S.left source.new)) }

@@ -24,9 +24,16 @@ pub enum Stage {
 #[derive(Clone, Copy, Debug, PartialEq, Eq)]
 pub enum Command {
     /// `bits RATE SEED`
-    Bits { rate: Rate, seed: Seed },
+    Bits {
+        rate: Rate,
+        seed: Seed,
+    },
     /// `show STAGE RATE SEED`
-    Show { stage: Stage, rate: Rate, seed: Seed },
+    Show {
+        stage: Stage,
+        rate: Rate,
+        seed: Seed,
+    },
 }
 
 /// The command that the words say, without the program's name: `None` exactly where they say none. Takes no memory.

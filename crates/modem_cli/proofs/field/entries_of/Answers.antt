@@ -7,4 +7,4 @@ pub returns-clause-bits : goal.returns-clause-bits
 returns-clause-bits c =
     let copied : AreBits c.copy_from_slice.new.self = rw c.copy_from_slice.ensures.after c.requires.bits in
     All-append IsBit c.copy_from_slice.new.self (drop (length c.args.symbol.now) (replicate 288 0)) copied
-        (All-drop IsBit (length c.args.symbol.now) (replicate 288 0) (All-replicate IsBit 288 0 (lit< tt)))
+    (All-drop IsBit (length c.args.symbol.now) (replicate 288 0) (All-replicate IsBit 288 0 (lit< tt)))

@@ -7,4 +7,4 @@ pub returns-in_err-psdu-clause-outcome : goal.returns-in_err-psdu-clause-outcome
 returns-in_err-psdu-clause-outcome g c =
     let refused = err_from_is_err_and c.from_residual.result c.from_residual.ensures.1 in
     rw (refused.1, refused.2) (λ decided.
-        for_one_answer _ _ (stage_text_of c.args.stage c.args.rate c.args.seed) (c.in_err-psdu.ensures.outcome decided))
+    for_one_answer _ _ (stage_text_of c.args.stage c.args.rate c.args.seed) (c.in_err-psdu.ensures.outcome decided))

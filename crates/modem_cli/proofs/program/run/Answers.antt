@@ -1,8 +1,7 @@
-use Rattle.std.proofs.Common.{◌≡◌, ◌∙◌, ap, map, string_bytes, Global, refl}
+use Rattle.std.proofs.Common.{map, string_bytes, Global, refl}
 use Rattle.modem_ports.specs.Counts.{Rose}
-use Rattle.modem_ports.specs.Told.{Takes, TakesPrefix}
-use Rattle.modem_cli.specs.Refusals.{report_line}
-use Rattle.modem_cli.proofs.Refused.{refused_answers, refused_refuses, bad_words, nothing_said, whole_or_part, refuses_not}
+use Rattle.modem_ports.specs.Told.{Takes}
+use Rattle.modem_cli.proofs.Refused.{refused_answers, refused_refuses, bad_words, nothing_said, refuses_not}
 use Rattle.modem_cli.proofs.program.run.Goals as goal
 
 pub returns-in-Ok-clause-bad_words : goal.returns-in-Ok-clause-bad_words
@@ -11,38 +10,31 @@ returns-in-Ok-clause-bad_words g c = (λ is. cc, λ refused. let never = c.in-Ok
 pub returns-in-Ok-clause-refuses : goal.returns-in-Ok-clause-refuses
 returns-in-Ok-clause-refuses g c = λ unread.
     refuses_not (map (string_bytes {Z = Global}) c.args.words.now.items) (g.S.Source.left c.args.source.now) _
-        (λ outcome bytes. Takes (g.K.Sink.taken c.args.out.now) bytes (g.K.Sink.taken c.execute.new.out)) c.in-Ok.ensures.ok
+    (λ outcome bytes. Takes (g.K.Sink.taken c.args.out.now) bytes (g.K.Sink.taken c.execute.new.out)) c.in-Ok.ensures.ok
 
 pub returns-in-Err-clause-reported : goal.returns-in-Err-clause-reported
-returns-in-Err-clause-reported g c = λ failed.
-    let line : c.as_slice.result.now ≡ report_line c.in-Err.refusal = c.as_slice.ensures ∙ c.line_of-line.ensures in
-    record {
-      refusal = c.in-Err.refusal;
-      has_status = cc;
-      is_outcome = λ decided. c.in-Err.ensures.outcome (rw c.status.ensures at decided);
-      is_taken =
-          rw (← line) (whole_or_part c.write_all.result
-              (Takes (g.E.Sink.taken c.args.report.now) c.as_slice.result.now (g.E.Sink.taken c.write_all.new.sink))
-              (Rose (g.E.Sink.faults c.args.report.now) (g.E.Sink.faults c.write_all.new.sink))
-              (TakesPrefix (g.E.Sink.taken c.args.report.now) c.as_slice.result.now (g.E.Sink.taken c.write_all.new.sink))
-              c.write_all.ensures.ok c.write_all.ensures.failed c.write_all.ensures.prefix);
-    }
+returns-in-Err-clause-reported g c = λ failed. record {
+  refusal = c.in-Err.refusal;
+  has_status = cc;
+  is_outcome = λ decided. c.in-Err.ensures.outcome (rw c.refuse.ensures.status at decided);
+  is_taken = c.refuse.ensures.reported;
+}
 
 pub returns-in-Err-clause-bad_words : goal.returns-in-Err-clause-bad_words
 returns-in-Err-clause-bad_words g c =
-    rw c.status.ensures (bad_words (map (string_bytes {Z = Global}) c.args.words.now.items) c.in-Err.refusal
-        (λ is. c.in-Err.ensures.words.0 (rw is refl)) (λ none. let is = c.in-Err.ensures.words.1 none in cc))
+    rw c.refuse.ensures.status (bad_words (map (string_bytes {Z = Global}) c.args.words.now.items) c.in-Err.refusal
+    (λ is. c.in-Err.ensures.words.0 (rw is refl)) (λ none. let is = c.in-Err.ensures.words.1 none in cc))
 
 pub returns-in-Err-clause-answers : goal.returns-in-Err-clause-answers
 returns-in-Err-clause-answers g c = λ unread unwritten.
-    rw c.status.ensures (refused_answers (map (string_bytes {Z = Global}) c.args.words.now.items) (g.S.Source.left c.args.source.now) c.in-Err.refusal
-        (Rose (g.S.Source.faults c.args.source.now) (g.S.Source.faults c.execute.new.source))
-        (Rose (g.K.Sink.faults c.args.out.now) (g.K.Sink.faults c.execute.new.out))
-        c.in-Err.ensures.outcome (λ is. c.in-Err.ensures.read_fault (rw is refl)) (λ is. c.in-Err.ensures.write_fault (rw is refl)) unread unwritten)
+    rw c.refuse.ensures.status (refused_answers (map (string_bytes {Z = Global}) c.args.words.now.items) (g.S.Source.left c.args.source.now) c.in-Err.refusal
+    (Rose (g.S.Source.faults c.args.source.now) (g.S.Source.faults c.execute.new.source))
+    (Rose (g.K.Sink.faults c.args.out.now) (g.K.Sink.faults c.execute.new.out))
+    c.in-Err.ensures.outcome (λ is. c.in-Err.ensures.read_fault (rw is refl)) (λ is. c.in-Err.ensures.write_fault (rw is refl)) unread unwritten)
 
 pub returns-in-Err-clause-refuses : goal.returns-in-Err-clause-refuses
 returns-in-Err-clause-refuses g c = λ unread.
-    rw c.status.ensures (refused_refuses (map (string_bytes {Z = Global}) c.args.words.now.items) (g.S.Source.left c.args.source.now) c.in-Err.refusal
-        (Rose (g.S.Source.faults c.args.source.now) (g.S.Source.faults c.execute.new.source))
-        (g.K.Sink.taken c.args.out.now) (g.K.Sink.taken c.execute.new.out)
-        c.in-Err.ensures.outcome (λ is. c.in-Err.ensures.read_fault (rw is refl)) (λ is. c.in-Err.ensures.in_part (rw is refl)) unread)
+    rw c.refuse.ensures.status (refused_refuses (map (string_bytes {Z = Global}) c.args.words.now.items) (g.S.Source.left c.args.source.now) c.in-Err.refusal
+    (Rose (g.S.Source.faults c.args.source.now) (g.S.Source.faults c.execute.new.source))
+    (g.K.Sink.taken c.args.out.now) (g.K.Sink.taken c.execute.new.out)
+    c.in-Err.ensures.outcome (λ is. c.in-Err.ensures.read_fault (rw is refl)) (λ is. c.in-Err.ensures.in_part (rw is refl)) unread)

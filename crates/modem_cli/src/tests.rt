@@ -1,0 +1,278 @@
+//! Runs over ports in memory, with the rows of the commands.
+use crate::program::run;
+use crate::refusals::Status;
+use modem_ports::{MemSink, MemSource, Source, Steps};
+use std::alloc::{AllocError, Global};
+use std::test::Fail;
+
+/// Room for what a test writes.
+const ROOM: usize = 300_000;
+
+/// The words of a command line.
+fn words_of(alloc: Global, line: &str) -> Result<Vec<String>, AllocError> {
+    let mut words = Vec::new(alloc);
+    for word in line.split_whitespace() {
+        words.push(String::from_str(alloc, word)?)?;
+    }
+    Ok(words)
+}
+
+/// Runs a command line over a source and a sink, and gives the status and what was reported.
+fn run_line(
+    alloc: Global,
+    line: &str,
+    source: &mut MemSource,
+    out: &mut MemSink,
+) -> Result<(Status, Vec<u8>), AllocError> {
+    let words = words_of(alloc, line)?;
+    let mut report = MemSink::open(alloc, 80, 80, &[])?;
+    let mut steps = Steps::new();
+    let status = run(alloc, &words, source, out, &mut report, &mut steps);
+    Ok((status, Vec::from_slice(alloc, report.taken())?))
+}
+
+#[test]
+fn answers_and_refuses(rt: HostRuntime) -> Result<(), Fail> {
+    let octet: &[u8] = &[0];
+    let rows: [(&str, &[u8], Status, &str, &str); 17] = [
+        (
+            "bits 6 93",
+            octet,
+            Status::Ok,
+            "001110101101000100100100101000000011001010110010100100001011111010110100100101101101100010000011\n",
+            "",
+        ),
+        (
+            "bits 9 93",
+            octet,
+            Status::Ok,
+            "001010110000100010100001001011001000001111101100\n",
+            "",
+        ),
+        (
+            "show kept 9 93",
+            octet,
+            Status::Ok,
+            "001010110000100010100001001011001000001111101100\n",
+            "",
+        ),
+        (
+            "show scrambled 6 93",
+            octet,
+            Status::Ok,
+            "011011000001100110101001000000110110100001010101\n",
+            "",
+        ),
+        (
+            "bits 6 93",
+            &[],
+            Status::BadInput,
+            "",
+            "error 2: empty psdu\n",
+        ),
+        ("bits 6 0", octet, Status::BadWords, "", "error 1: words\n"),
+        (
+            "bits 6 128",
+            octet,
+            Status::BadWords,
+            "",
+            "error 1: words\n",
+        ),
+        ("bits 06 1", octet, Status::BadWords, "", "error 1: words\n"),
+        ("bits 7 1", octet, Status::BadWords, "", "error 1: words\n"),
+        ("bits 6 +1", octet, Status::BadWords, "", "error 1: words\n"),
+        ("bits 6", octet, Status::BadWords, "", "error 1: words\n"),
+        (
+            "bits 6 93 1",
+            octet,
+            Status::BadWords,
+            "",
+            "error 1: words\n",
+        ),
+        (
+            "show header 6 93",
+            octet,
+            Status::BadWords,
+            "",
+            "error 1: words\n",
+        ),
+        (
+            "show kept 6",
+            octet,
+            Status::BadWords,
+            "",
+            "error 1: words\n",
+        ),
+        ("send 06 1", octet, Status::BadWords, "", "error 1: words\n"),
+        ("send 6", octet, Status::BadWords, "", "error 1: words\n"),
+        ("", octet, Status::BadWords, "", "error 1: words\n"),
+    ];
+    for (line, input, status, answer, report) in rows {
+        let mut source = MemSource::open(rt.alloc(), input, 64, &[])?;
+        let mut out = MemSink::open(rt.alloc(), ROOM, 64, &[])?;
+        let ran = run_line(rt.alloc(), line, &mut source, &mut out)?;
+        assert!(rt; ran.0 == status, "status of {line}");
+        assert!(rt; out.taken() == answer.as_bytes(), "answer of {line}");
+        assert!(rt; ran.1.as_slice() == report.as_bytes(), "report of {line}");
+    }
+    Ok(())
+}
+
+#[test]
+fn begins_the_longer_answers(rt: HostRuntime) -> Result<(), Fail> {
+    let rows: [(&str, usize, &str); 3] = [
+        ("bits 48 93", 289, "001101110000"),
+        ("show interleaved 6 93", 97, "000000111"),
+        (
+            "show coded 9 93",
+            73,
+            "001110101101000100100100101000000011001010110010100100001011111010110100\n",
+        ),
+    ];
+    for (line, count, front) in rows {
+        let mut source = MemSource::open(rt.alloc(), &[0], 1, &[])?;
+        let mut out = MemSink::open(rt.alloc(), ROOM, 1000, &[])?;
+        let ran = run_line(rt.alloc(), line, &mut source, &mut out)?;
+        assert!(rt; ran.0 == Status::Ok, "status of {line}");
+        assert_eq!(rt; out.taken().len(), count, "length of {line}");
+        assert!(rt;
+            out.taken().starts_with(front.as_bytes()),
+            "front of {line}"
+        );
+    }
+    Ok(())
+}
+
+#[test]
+fn takes_one_octet_too_many_and_no_more(rt: HostRuntime) -> Result<(), Fail> {
+    let octets = vec![in rt.alloc(); 0u8; 5000]?;
+    let mut source = MemSource::open(rt.alloc(), &octets, 1000, &[])?;
+    let mut out = MemSink::open(rt.alloc(), ROOM, 1000, &[])?;
+    let ran = run_line(rt.alloc(), "bits 6 93", &mut source, &mut out)?;
+    assert!(rt; ran.0 == Status::BadInput);
+    assert!(rt; ran.1.as_slice() == b"error 3: psdu over 4095 octets\n".as_slice());
+    assert!(rt; out.taken().is_empty());
+    let mut rest = [0; 1000];
+    assert!(rt; source.read(&mut rest) == Ok(904));
+    // One octet fewer than the refused number is answered.
+    let mut source = MemSource::open(rt.alloc(), &octets[..4095], 1, &[])?;
+    let ran = run_line(rt.alloc(), "bits 54 127", &mut source, &mut out)?;
+    assert!(rt; ran.0 == Status::Ok);
+    assert_eq!(rt; out.taken().len(), 152 * 288 + 1);
+    Ok(())
+}
+
+#[test]
+fn reports_a_failing_source(rt: HostRuntime) -> Result<(), Fail> {
+    let octets = [0, 1, 2];
+    // Three calls give an octet each, and the fourth finds the end.
+    for call in 1..6u64 {
+        let mut source = MemSource::open(rt.alloc(), &octets, 1, &[call])?;
+        let mut out = MemSink::open(rt.alloc(), ROOM, 1000, &[])?;
+        let ran = run_line(rt.alloc(), "bits 6 93", &mut source, &mut out)?;
+        let failed = call < 5;
+        assert!(rt; (ran.0 == Status::ReadFault) == failed, "status at {call}");
+        assert!(rt; out.taken().is_empty() == failed, "answer at {call}");
+        let report: &[u8] = if failed {
+            b"error 10: read fault\n"
+        } else {
+            b""
+        };
+        assert!(rt; ran.1.as_slice() == report, "report at {call}");
+    }
+    Ok(())
+}
+
+#[test]
+fn reports_a_failing_sink(rt: HostRuntime) -> Result<(), Fail> {
+    let mut source = MemSource::open(rt.alloc(), &[0], 64, &[])?;
+    let mut whole = MemSink::open(rt.alloc(), ROOM, 1000, &[])?;
+    run_line(rt.alloc(), "bits 6 93", &mut source, &mut whole)?;
+    // The 97 bytes go in pieces of 40.
+    for call in 1..5u64 {
+        let mut source = MemSource::open(rt.alloc(), &[0], 64, &[])?;
+        let mut out = MemSink::open(rt.alloc(), ROOM, 40, &[call])?;
+        let ran = run_line(rt.alloc(), "bits 6 93", &mut source, &mut out)?;
+        let failed = call < 4;
+        assert!(rt; (ran.0 == Status::WriteFault) == failed, "status at {call}");
+        let count = if failed { 40 * (call as usize - 1) } else { 97 };
+        assert_eq!(rt; out.taken().len(), count, "bytes at {call}");
+        assert!(rt; whole.taken().starts_with(out.taken()), "prefix at {call}");
+        let report: &[u8] = if failed {
+            b"error 11: write fault\n"
+        } else {
+            b""
+        };
+        assert!(rt; ran.1.as_slice() == report, "report at {call}");
+    }
+    Ok(())
+}
+
+#[test]
+fn keeps_the_status_where_the_report_fails(rt: HostRuntime) -> Result<(), Fail> {
+    let words = words_of(rt.alloc(), "bits 6 128")?;
+    let mut source = MemSource::open(rt.alloc(), &[0], 64, &[])?;
+    let mut out = MemSink::open(rt.alloc(), ROOM, 64, &[])?;
+    let mut report = MemSink::open(rt.alloc(), 80, 4, &[3])?;
+    let mut steps = Steps::new();
+    let status = run(
+        rt.alloc(),
+        &words,
+        &mut source,
+        &mut out,
+        &mut report,
+        &mut steps,
+    );
+    assert!(rt; status == Status::BadWords);
+    assert!(rt; report.taken() == b"error 1:".as_slice());
+    assert_eq!(rt; steps.count(), 0);
+    Ok(())
+}
+
+/// The run of one command line while an allocation may be refused: whether it was begun at all, and how it ended.
+fn run_where_memory_may_want(
+    alloc: Global,
+    line: &str,
+) -> Result<(Status, Vec<u8>, Vec<u8>), AllocError> {
+    let mut source = MemSource::open(alloc, &[0], 64, &[])?;
+    let mut out = MemSink::open(alloc, ROOM, 1000, &[])?;
+    let mut report = MemSink::open(alloc, 80, 80, &[])?;
+    let mut steps = Steps::new();
+    let mut bytes = Vec::with_capacity(alloc, ROOM)?;
+    let mut reported = Vec::with_capacity(alloc, 80)?;
+    let words = words_of(alloc, line)?;
+    let status = run(
+        alloc,
+        &words,
+        &mut source,
+        &mut out,
+        &mut report,
+        &mut steps,
+    );
+    bytes.extend_from_slice(out.taken())?;
+    reported.extend_from_slice(report.taken())?;
+    Ok((status, bytes, reported))
+}
+
+// `tools/refuse-memory` runs this with each allocation refused in turn, and reads what it prints.
+#[test]
+fn answers_or_wants_memory(rt: HostRuntime) -> Result<(), Fail> {
+    for (line, count) in [("bits 9 93", 49), ("show interleaved 48 93", 289)] {
+        match run_where_memory_may_want(rt.alloc(), line) {
+            Err(AllocError) => println!(rt; "{line}: refused before the run")?,
+            Ok((status, bytes, reported)) => {
+                let wants = status == Status::NoMemory;
+                assert!(rt; wants || status == Status::Ok, "status of {line}");
+                assert_eq!(rt;
+                    bytes.len(),
+                    if wants { 0 } else { count },
+                    "bytes of {line}"
+                );
+                let report: &[u8] = if wants { b"error 12: no memory\n" } else { b"" };
+                assert!(rt; reported.as_slice() == report, "report of {line}");
+                println!(rt; "{line}: status {}", status.code())?;
+            }
+        }
+    }
+    Ok(())
+}
