@@ -1,5 +1,6 @@
--- Bits, and the bits of octets.
-use Rattle.std.specs.Prelude.{ℕ, ◌+◌, ◌/◌, ◌%◌, ◌^◌, ◌<◌, List, map, All}
+-- Bits, and the bits of octets (IEEE Std 802.11-2012, clause 18).
+use Rattle.std.specs.Prelude.{ℕ, ◌+◌, ◌%◌, ◌<◌, List, map, All}
+use Rattle.std.specs.Int.{bit_at}
 use Rattle.std.specs.List.{flat_map, range_with_len}
 
 -- a bit is 0 or 1
@@ -13,13 +14,9 @@ AreBits bits = All IsBit bits
 abbrev pub exclusive_or : ℕ → ℕ → ℕ
 exclusive_or a b = (a + b) % 2
 
--- the bit of weight 2^k of a number
-abbrev pub bit_of : ℕ → ℕ → ℕ
-bit_of number k = number / 2 ^ k % 2
-
 -- the eight bits of an octet, the least significant first
 unfoldable pub bits_of_octet : ℕ → List ℕ
-bits_of_octet octet = map (bit_of octet) (range_with_len 0 8)
+bits_of_octet octet = map (bit_at octet) (range_with_len 0 8)
 
 -- the bits of octets: eight per octet, in the octets' order
 abbrev pub bits_of_octets : List ℕ → List ℕ

@@ -1,4 +1,4 @@
--- The text of bits.
+-- The text of bits (own).
 use Rattle.std.specs.Prelude.{ℕ, ◌+◌, List, [], ◌∷◌, ◌++◌, map}
 
 -- one character for each bit, `0` or `1`

@@ -7,7 +7,7 @@ ghost use Rattle.bit_lists.specs.Text.{text_of_bits};
 
 use std::alloc::{AllocError, Global};
 
-/// The bits of octets: eight bits per octet, least significant first (IEEE Std 802.11-2012, 18.3.5.2).
+/// The bits of octets: eight bits per octet, least significant first (IEEE Std 802.11-2012, clause 18).
 /// The only error is want of memory.
 pub fn bits_of(alloc: Global, bytes: &[u8]) -> Result<Vec<u8>, AllocError>
     ensures value { IfOk result (λ bits. bits.items ≡ bits_of_octets bytes.now) }

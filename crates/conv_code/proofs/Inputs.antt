@@ -2,7 +2,8 @@
 use Rattle.std.proofs.Common.{◌≡◌, ℕ, ◌+◌, ◌-◌, ◌*◌, ◌%◌, ◌<◌, ◌≤◌, List, length, slice_index, refl, ◌∙◌, inl, inr, arith, ltb}
 use Rattle.std.proofs.lemmas.List.{get_or_past}
 use Rattle.std.proofs.lemmas.Bool.{cases_lt, cond-true, cond-false, lt-ltb, le-ltb}
-use Rattle.bit_lists.specs.Bits.{IsBit, AreBits, bit_of}
+use Rattle.bit_lists.specs.Bits.{IsBit, AreBits}
+use Rattle.std.specs.Int.{bit_at}
 use Rattle.conv_code.specs.Code.{earlier, parity_a, parity_b}
 use Rattle.conv_code.specs.Trellis.{branch_a, branch_b, state_after, state_before}
 
@@ -58,12 +59,12 @@ next_state_along state bit next after u i bits within same_state same_bit = afte
 
 -- a state's bits, from six bits
 pub record BitsOfState (state one two three four five six : ℕ) : Type 0 where
-  pub one_ago : bit_of state 0 ≡ one
-  pub two_ago : bit_of state 1 ≡ two
-  pub three_ago : bit_of state 2 ≡ three
-  pub four_ago : bit_of state 3 ≡ four
-  pub five_ago : bit_of state 4 ≡ five
-  pub six_ago : bit_of state 5 ≡ six
+  pub one_ago : bit_at state 0 ≡ one
+  pub two_ago : bit_at state 1 ≡ two
+  pub three_ago : bit_at state 2 ≡ three
+  pub four_ago : bit_at state 3 ≡ four
+  pub five_ago : bit_at state 4 ≡ five
+  pub six_ago : bit_at state 5 ≡ six
 
 -- six bits, each at its weight
 bits_of_sum : (one two three four five six : ℕ) → one < 2 → two < 2 → three < 2 → four < 2 → five < 2 → six < 2 → BitsOfState (one + 2 * two + 4 * three + 8 * four + 16 * five + 32 * six) one two three four five six
@@ -83,12 +84,12 @@ bits_of_state_before u i bits =
     bits_of_sum _ _ _ _ _ _ (IsBit-earlier u i 1 bits) (IsBit-earlier u i 2 bits) (IsBit-earlier u i 3 bits) (IsBit-earlier u i 4 bits) (IsBit-earlier u i 5 bits) (IsBit-earlier u i 6 bits)
 
 -- A of a step is the exclusive or of its input and of the inputs 2, 3, 5 and 6 steps ago
-pub branch_a_is : (state bit : ℕ) → branch_a state bit ≡ (bit + bit_of state 1 + bit_of state 2 + bit_of state 4 + bit_of state 5) % 2
+pub branch_a_is : (state bit : ℕ) → branch_a state bit ≡ (bit + bit_at state 1 + bit_at state 2 + bit_at state 4 + bit_at state 5) % 2
 unfolding parity_a earlier
 branch_a_is state bit = refl
 
 -- B is the exclusive or of its input and of the inputs 1, 2, 3 and 6 steps ago
-pub branch_b_is : (state bit : ℕ) → branch_b state bit ≡ (bit + bit_of state 0 + bit_of state 1 + bit_of state 2 + bit_of state 5) % 2
+pub branch_b_is : (state bit : ℕ) → branch_b state bit ≡ (bit + bit_at state 0 + bit_at state 1 + bit_at state 2 + bit_at state 5) % 2
 unfolding parity_b earlier
 branch_b_is state bit = refl
 

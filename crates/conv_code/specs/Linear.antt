@@ -1,4 +1,4 @@
--- The exclusive or of lists.
+-- The exclusive or of lists (own).
 use Rattle.std.specs.Prelude.{ℕ, List, map, length, slice_index}
 use Rattle.std.specs.List.{range_with_len}
 use Rattle.bit_lists.specs.Bits.{exclusive_or}

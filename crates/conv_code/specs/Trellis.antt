@@ -1,11 +1,11 @@
--- The code by its states. Bit j of a state, 0 to 63, is the input j + 1 steps ago.
+-- The code of 18.3.5.6 by its states, whose numbers are own. Bit j of a state, 0 to 63, is the input j + 1 steps ago.
 use Rattle.std.specs.Prelude.{ℕ, ◌+◌, ◌*◌, ◌%◌, List, [], ◌∷◌}
-use Rattle.bit_lists.specs.Bits.{bit_of}
+use Rattle.std.specs.Int.{bit_at}
 use Rattle.conv_code.specs.Code.{earlier, parity_a, parity_b}
 
 -- the six inputs that a state holds, the oldest first, and then the input of the step
 abbrev pub recent_inputs : ℕ → ℕ → List ℕ
-recent_inputs state bit = bit_of state 5 ∷ bit_of state 4 ∷ bit_of state 3 ∷ bit_of state 2 ∷ bit_of state 1 ∷ bit_of state 0 ∷ bit ∷ []
+recent_inputs state bit = bit_at state 5 ∷ bit_at state 4 ∷ bit_at state 3 ∷ bit_at state 2 ∷ bit_at state 1 ∷ bit_at state 0 ∷ bit ∷ []
 
 -- A and B of a step: the parities at the last of those inputs
 abbrev pub branch_a : ℕ → ℕ → ℕ

@@ -2,7 +2,8 @@
 #![tactic(auto)]
 
 ghost use Rattle.std.specs.Prelude.{◌≡◌, ◌<◌, ◌+◌, ◌-◌, ℕ, List, length, slice_index, IfOk};
-ghost use Rattle.bit_lists.specs.Bits.{AreBits, IsBit, bit_of};
+ghost use Rattle.bit_lists.specs.Bits.{AreBits, IsBit};
+ghost use Rattle.std.specs.Int.{bit_at};
 ghost use Rattle.conv_code.specs.Code.{Codes, code_of, parity_a, parity_b};
 ghost use Rattle.conv_code.specs.Trellis.{branch_a, branch_b, state_after, state_before};
 
@@ -71,7 +72,7 @@ pub fn next_state(state: u8, bit: u8) -> u8
 fn input_ago(state: u8, steps: u8) -> u8
     requires at_least_one { 0 < steps }
     requires at_most_six { steps < 7 }
-    ensures value { result ≡ bit_of state (steps - 1) }
+    ensures value { result ≡ bit_at state (steps - 1) }
     ensures bit { IsBit result }
 {
     (state >> (steps - 1)) & 1

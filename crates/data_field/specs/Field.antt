@@ -1,16 +1,16 @@
 -- The bits of the DATA field (IEEE Std 802.11-2012, 18.3.5.1 to 18.3.5.5), for any number of field bits a symbol.
 use Rattle.std.specs.Prelude.{ℕ, ◌+◌, ◌-◌, ◌*◌, List, ◌++◌, length, take, drop, replicate}
 use Rattle.bit_lists.specs.Bits.{bits_of_octets}
-use Rattle.rate_table.specs.Symbols.{symbol_count}
+use Rattle.rate_table.specs.Symbols.{symbol_count, tail_place}
 use Rattle.ofdm_scrambler.specs.Sequence.{scrambled}
 
 -- how many bits the field of so many octets has, at so many field bits a symbol: N_SYM * N_DBPS
 abbrev pub field_length : ℕ → ℕ → ℕ
 field_length field_bits octets = symbol_count field_bits octets * field_bits
 
--- the place of the tail's first bit, behind the 16 SERVICE bits and the octets
-abbrev pub tail_place : ℕ → ℕ
-tail_place octets = 16 + 8 * octets
+-- a PSDU has at most so many octets
+abbrev pub most_octets : ℕ
+most_octets = 4095
 
 -- the field before scrambling: 16 SERVICE bits, all 0, the bits of the octets, and zeros to the end
 abbrev pub plain_field : ℕ → List ℕ → List ℕ

@@ -1,4 +1,4 @@
--- The bits of the DATA field after each stage, at a rate.
+-- The bits of the DATA field after each stage, at a rate (IEEE Std 802.11-2012, 18.3.5.5 to 18.3.5.7).
 use Rattle.std.specs.Prelude.{ℕ, List, length}
 use Rattle.rate_table.specs.declared.Rate.{Rate}
 use Rattle.rate_table.specs.Table.{row_of}

@@ -1,5 +1,5 @@
 -- What is known where an answer has a value or none.
-use Rattle.std.proofs.Common.{◌≡◌, Option, Some, None, Result, Ok, Err, refl, sym}
+use Rattle.std.proofs.Common.{◌≡◌, Option, Some, None, Result, Ok, Err, refl}
 use Rattle.std.specs.Option.{IfNone}
 use Rattle.std.specs.Result.{OkIff, result_ok}
 

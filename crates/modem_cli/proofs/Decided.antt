@@ -1,5 +1,5 @@
 -- Whether words say a command can be decided, so that words and bytes have an outcome.
-use Rattle.std.proofs.Common.{◌≡◌, ◌<◌, ◌≤◌, ◌⊎◌, inl, inr, ℕ, zero, suc, Bool, true, false, List, refl, sym, subst, ◌∙◌, lit<, arith}
+use Rattle.std.proofs.Common.{◌≡◌, ◌<◌, ◌⊎◌, inl, inr, ℕ, zero, suc, Bool, true, false, List, ◌∷◌, codes, refl, sym, subst, lit<, arith}
 use Rattle.std.proofs.lemmas.Bool.{false≢true, cases_lt}
 use Rattle.std.proofs.lemmas.Slice.Eq.{slice_eq-Decides, bytes_eq-Decides}
 use Rattle.std.specs.Str.{bytes_eq}
@@ -12,9 +12,9 @@ use Rattle.modem_cli.specs.declared.words.Stage.TheVariants.{Scrambled, Coded, K
 use Rattle.modem_cli.specs.declared.words.Command.{Command}
 use Rattle.modem_cli.specs.declared.words.Command.TheVariants.{Bits, Show}
 use Rattle.modem_cli.specs.declared.refusals.Refusal.TheVariants.{Words}
-use Rattle.modem_cli.specs.Grammar.{IsSeed, Say, words_of}
+use Rattle.modem_cli.specs.Grammar.{Say, rate_and_seed, stage_word}
+use Rattle.ofdm_scrambler.specs.Sequence.{IsSeed}
 use Rattle.modem_cli.specs.Outcome.{Outcome, Refuses, CommandOutcome, HasOutcome, of_command, of_no_command, psdu_outcome, stage_text_of}
-use Rattle.modem_cli.proofs.Outcomes.{outcome_said, outcome_unsaid}
 
 -- a fact or its contrary
 abbrev Decided : Type 0 → Type 0
@@ -71,7 +71,7 @@ bits_at_seed : (words : List (List ℕ)) (rate : Rate) (n : ℕ) → Decided (Sa
 bits_at_seed words rate n =
     elim (seed_decided n) [
       | inr out ↦ inr (λ says. out says.in_range)
-      | inl in_range ↦ elim (same_words words (words_of (Bits rate n))) [
+      | inl in_range ↦ elim (same_words words (codes "bits" ∷ rate_and_seed rate n)) [
         | inl same ↦ inl (record { in_range = in_range; words_are = same })
         | inr other ↦ inr (λ says. other says.words_are)
       ]
@@ -81,7 +81,7 @@ show_at_seed : (words : List (List ℕ)) (stage : Stage) (rate : Rate) (n : ℕ)
 show_at_seed words stage rate n =
     elim (seed_decided n) [
       | inr out ↦ inr (λ says. out says.in_range)
-      | inl in_range ↦ elim (same_words words (words_of (Show stage rate n))) [
+      | inl in_range ↦ elim (same_words words (codes "show" ∷ stage_word stage ∷ rate_and_seed rate n)) [
         | inl same ↦ inl (record { in_range = in_range; words_are = same })
         | inr other ↦ inr (λ says. other says.words_are)
       ]
@@ -171,13 +171,13 @@ nothing_said words no_bits no_show (Bits rate seed) says = no_bits (rate, (seed,
 nothing_said words no_bits no_show (Show stage rate seed) says = no_show (stage, (rate, (seed, says)))
 
 -- each command and the bytes have an outcome
-outcome_of : (command : Command) (bytes : List ℕ) → (outcome : Outcome) × CommandOutcome command bytes outcome
-outcome_of (Bits rate seed) bytes = (psdu_outcome (stage_text_of Kept rate seed) bytes, refl)
-outcome_of (Show stage rate seed) bytes = (psdu_outcome (stage_text_of stage rate seed) bytes, refl)
+outcome_of : (command : Command) (words : List (List ℕ)) (bytes : List ℕ) → (outcome : Outcome) × CommandOutcome command words bytes outcome
+outcome_of (Bits rate seed) words bytes = (psdu_outcome (stage_text_of Kept rate seed) bytes, refl)
+outcome_of (Show stage rate seed) words bytes = (psdu_outcome (stage_text_of stage rate seed) bytes, refl)
 
 outcome_where_said : (words : List (List ℕ)) (bytes : List ℕ) (command : Command) → Say words command → (outcome : Outcome) × HasOutcome words bytes outcome
 outcome_where_said words bytes command says =
-    let of_it = outcome_of command bytes in (of_it.0, of_command command says of_it.1)
+    let of_it = outcome_of command words bytes in (of_it.0, of_command command says of_it.1)
 
 -- words and bytes have an outcome
 pub some_outcome : (words : List (List ℕ)) (bytes : List ℕ) → (outcome : Outcome) × HasOutcome words bytes outcome
@@ -189,8 +189,3 @@ some_outcome words bytes =
         | inr no_show ↦ (Refuses Words, of_no_command (nothing_said words no_bits no_show) refl)
       ]
     ]
-
--- and only one
-pub only_outcome : (words : List (List ℕ)) (bytes : List ℕ) (a b : Outcome) → HasOutcome words bytes a → HasOutcome words bytes b → a ≡ b
-only_outcome words bytes a b (of_command command says is) has = sym (outcome_said words bytes a b command says is has)
-only_outcome words bytes a b (of_no_command none is) has = is ∙ sym (outcome_unsaid words bytes b none has)

@@ -1,5 +1,5 @@
 -- A list of three or four items, by what stands at each place.
-use Rattle.std.proofs.Common.{◌≡◌, ◌≤◌, ◌<◌, ℕ, List, [], ◌∷◌, length, get_or, map, arith}
+use Rattle.std.proofs.Common.{◌≡◌, ◌≤◌, ◌<◌, List, [], ◌∷◌, length, get_or, map, arith}
 
 pub three_items : {X Y : Type 0} (f : X → Y) (xs : List X) (a b c : X) → 3 ≤ length xs → length xs < 4
     → a ≡ get_or xs 0 a → b ≡ get_or xs 1 b → c ≡ get_or xs 2 c → map f xs ≡ f a ∷ f b ∷ f c ∷ []

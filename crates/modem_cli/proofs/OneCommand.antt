@@ -1,5 +1,5 @@
 -- Words say at most one command.
-use Rattle.std.proofs.Common.{◌≡◌, ◌<◌, ◌≤◌, ◌^◌, ℕ, List, [], ◌∷◌, decimal, sym, ap, ◌∙◌, refl, arith, cond, eqb, lit<}
+use Rattle.std.proofs.Common.{◌≡◌, ℕ, List, decimal, sym, ap, ◌∙◌, refl, arith, cond, eqb}
 use Rattle.std.proofs.lemmas.Fmt.{decimal_injective}
 use Rattle.rate_table.specs.declared.Rate.{Rate}
 use Rattle.rate_table.specs.declared.Rate.TheVariants.{R6, R9, R12, R18, R24, R36, R48, R54}
@@ -8,7 +8,8 @@ use Rattle.modem_cli.specs.declared.words.Stage.{Stage}
 use Rattle.modem_cli.specs.declared.words.Stage.TheVariants.{Scrambled, Coded, Kept, Interleaved}
 use Rattle.modem_cli.specs.declared.words.Command.{Command}
 use Rattle.modem_cli.specs.declared.words.Command.TheVariants.{Bits, Show}
-use Rattle.modem_cli.specs.Grammar.{IsSeed, Say, rate_and_seed, stage_word}
+use Rattle.modem_cli.specs.Grammar.{Say, stage_word}
+use Rattle.ofdm_scrambler.specs.Sequence.{IsSeed}
 use Rattle.modem_cli.proofs.Ranges.{mbps_small}
 
 -- the rate of so many megabits a second

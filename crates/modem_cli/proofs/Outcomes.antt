@@ -1,5 +1,5 @@
 -- The one outcome of words and bytes, where the words say a command or none.
-use Rattle.std.proofs.Common.{◌≡◌, ℕ, List, Option, Some, None, refl, sym, ap, ◌∙◌, subst}
+use Rattle.std.proofs.Common.{◌≡◌, ℕ, List, Option, Some, None, refl, sym, ◌∙◌, subst}
 use Rattle.std.specs.Option.{IfSome}
 use Rattle.modem_ports.specs.Told.{Takes, TakesPrefix}
 use Rattle.modem_cli.specs.declared.refusals.Refusal.{Refusal}
@@ -7,55 +7,57 @@ use Rattle.modem_cli.specs.declared.refusals.Refusal.TheVariants.{Words}
 use Rattle.modem_cli.specs.declared.words.Command.{Command}
 use Rattle.modem_cli.specs.declared.words.Command.TheVariants.{Bits, Show}
 use Rattle.modem_cli.specs.Grammar.{Say, SayNothing}
-use Rattle.modem_cli.specs.Outcome.{Outcome, Writes, Refuses, CommandOutcome, HasOutcome, of_command, of_no_command, IfOutcome, psdu_outcome}
+use Rattle.modem_cli.specs.Outcome.{Outcome, Writes, Refuses, CommandOutcome, HasOutcome, of_command, of_no_command, IsOutcome, psdu_outcome}
 use Rattle.modem_cli.specs.Report.{TakesAnswer, TakesAnswerPrefix}
 use Rattle.modem_cli.proofs.OneCommand.{one_command}
 
--- a command and the bytes have at most one outcome
-pub one_of_command : (command : Command) (bytes : List ℕ) (a b : Outcome) → CommandOutcome command bytes a → CommandOutcome command bytes b → a ≡ b
-one_of_command (Bits rate seed) bytes a b has has' = has ∙ sym has'
-one_of_command (Show stage rate seed) bytes a b has has' = has ∙ sym has'
+-- a command, its words and the bytes have at most one outcome
+one_of_command : (command : Command) (words : List (List ℕ)) (bytes : List ℕ) (a b : Outcome) → CommandOutcome command words bytes a → CommandOutcome command words bytes b → a ≡ b
+one_of_command (Bits rate seed) words bytes a b has has' = has ∙ sym has'
+one_of_command (Show stage rate seed) words bytes a b has has' = has ∙ sym has'
 
 -- where the words say a command, the outcome is that command's
-pub outcome_said : (words : List (List ℕ)) (bytes : List ℕ) (a b : Outcome) (command : Command) → Say words command → CommandOutcome command bytes a → HasOutcome words bytes b → b ≡ a
+outcome_said : (words : List (List ℕ)) (bytes : List ℕ) (a b : Outcome) (command : Command) → Say words command → CommandOutcome command words bytes a → HasOutcome words bytes b → b ≡ a
 outcome_said words bytes a b command says has (of_command other says' has') =
     let same = one_command words other command says' says in
-    one_of_command command bytes b a (let P : Command → Type 0 = λ one. CommandOutcome one bytes b in subst P same has') has
+    one_of_command command words bytes b a (let P : Command → Type 0 = λ one. CommandOutcome one words bytes b in subst P same has') has
 outcome_said words bytes a b command says has (of_no_command none is) = absurd (none command says)
 
 -- where they say none, it is the refusal of the words
-pub outcome_unsaid : (words : List (List ℕ)) (bytes : List ℕ) (b : Outcome) → SayNothing words → HasOutcome words bytes b → b ≡ Refuses Words
+outcome_unsaid : (words : List (List ℕ)) (bytes : List ℕ) (b : Outcome) → SayNothing words → HasOutcome words bytes b → b ≡ Refuses Words
 outcome_unsaid words bytes b none (of_command command says has) = absurd (none command says)
 outcome_unsaid words bytes b none (of_no_command none' is) = is
 
--- so of the bytes that a source tells: the answer was taken whole
+-- words and bytes have at most one outcome
+pub only_outcome : (words : List (List ℕ)) (bytes : List ℕ) (a b : Outcome) → HasOutcome words bytes a → HasOutcome words bytes b → a ≡ b
+only_outcome words bytes a b (of_command command says is) has = sym (outcome_said words bytes a b command says is has)
+only_outcome words bytes a b (of_no_command none is) has = is ∙ sym (outcome_unsaid words bytes b none has)
+
+-- what a command's outcome says of the bytes that a source tells: its answer was taken whole
 pub answer_taken : (words : List (List ℕ)) (left : Option (List ℕ)) (command : Command) (answer : List ℕ) (before after : Option (List ℕ))
-    → Say words command → IfSome left (λ bytes. CommandOutcome command bytes (Writes answer)) → Takes before answer after
-    → IfOutcome words left (TakesAnswer before after)
+    → Say words command → IfSome left (λ bytes. (any : List (List ℕ)) → CommandOutcome command any bytes (Writes answer)) → Takes before answer after
+    → TakesAnswer words left before after
 answer_taken words None command answer before after says has takes = tt
-answer_taken words (Some bytes) command answer before after says has takes =
-    λ outcome is. (answer, outcome_said words bytes (Writes answer) outcome command says has is, takes)
+answer_taken words (Some bytes) command answer before after says has takes = (answer, of_command command says (has words), takes)
 
 -- .. or in part
 pub answer_taken_in_part : (words : List (List ℕ)) (left : Option (List ℕ)) (command : Command) (answer : List ℕ) (before after : Option (List ℕ))
-    → Say words command → IfSome left (λ bytes. CommandOutcome command bytes (Writes answer)) → TakesPrefix before answer after
-    → IfOutcome words left (TakesAnswerPrefix before after)
+    → Say words command → IfSome left (λ bytes. (any : List (List ℕ)) → CommandOutcome command any bytes (Writes answer)) → TakesPrefix before answer after
+    → TakesAnswerPrefix words left before after
 answer_taken_in_part words None command answer before after says has takes = tt
-answer_taken_in_part words (Some bytes) command answer before after says has takes =
-    λ outcome is. (answer, outcome_said words bytes (Writes answer) outcome command says has is, takes)
+answer_taken_in_part words (Some bytes) command answer before after says has takes = (answer, of_command command says (has words), takes)
 
 -- .. or the command was refused
 pub command_refused : (words : List (List ℕ)) (left : Option (List ℕ)) (command : Command) (refusal : Refusal)
-    → Say words command → IfSome left (λ bytes. CommandOutcome command bytes (Refuses refusal))
-    → IfOutcome words left (λ outcome. outcome ≡ Refuses refusal)
+    → Say words command → IfSome left (λ bytes. (any : List (List ℕ)) → CommandOutcome command any bytes (Refuses refusal))
+    → IsOutcome words left (Refuses refusal)
 command_refused words None command refusal says has = tt
-command_refused words (Some bytes) command refusal says has =
-    λ outcome is. outcome_said words bytes (Refuses refusal) outcome command says has is
+command_refused words (Some bytes) command refusal says has = of_command command says (has words)
 
 -- .. or the words were
-pub words_refused : (words : List (List ℕ)) (left : Option (List ℕ)) → SayNothing words → IfOutcome words left (λ outcome. outcome ≡ Refuses Words)
+pub words_refused : (words : List (List ℕ)) (left : Option (List ℕ)) → SayNothing words → IsOutcome words left (Refuses Words)
 words_refused words None none = tt
-words_refused words (Some bytes) none = λ outcome is. outcome_unsaid words bytes outcome none is
+words_refused words (Some bytes) none = of_no_command none refl
 
 -- what refuses a PSDU whatever is made of it refuses it for one command
 pub for_one_answer : (left : Option (List ℕ)) (refusal : Refusal) (answer : List ℕ → List ℕ)

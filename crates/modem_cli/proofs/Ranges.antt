@@ -1,5 +1,5 @@
 -- The numbers of the words are small.
-use Rattle.std.proofs.Common.{◌<◌, ◌^◌, ℕ, lit<}
+use Rattle.std.proofs.Common.{◌<◌, ◌^◌, lit<}
 use Rattle.rate_table.specs.declared.Rate.{Rate}
 use Rattle.rate_table.specs.declared.Rate.TheVariants.{R6, R9, R12, R18, R24, R36, R48, R54}
 use Rattle.rate_table.specs.Table.{row_of}

@@ -1,9 +1,9 @@
 -- What words and the bytes of the input come to: bytes that are written, or a refusal (own).
-use Rattle.std.specs.Prelude.{ℕ, ◌≡◌, ◌<◌, ◌⊎◌, List, [], length, nat_lt, ◌==◌, if◌then◌else◌, Option, Some, None}
+use Rattle.std.specs.Prelude.{ℕ, ◌+◌, ◌≡◌, ◌⊎◌, List, length, nat_lt, ◌==◌, if◌then◌else◌, Option, IfSome}
 use Rattle.bit_lists.specs.Text.{text_of_bits}
 use Rattle.rate_table.specs.declared.Rate.{Rate}
+use Rattle.data_field.specs.Field.{most_octets}
 use Rattle.data_field.specs.Stages.{field_at, code_at, kept_at, interleaved_at}
-use Rattle.modem_ports.specs.Told.{GivesAtMost, Takes, TakesPrefix}
 use Rattle.modem_cli.specs.declared.refusals.Refusal.{Refusal}
 use Rattle.modem_cli.specs.declared.refusals.Refusal.TheVariants.{Words, EmptyPsdu, LongPsdu}
 use Rattle.modem_cli.specs.declared.refusals.Status.{Status}
@@ -19,58 +19,57 @@ pub data Outcome : Type 0 where
   Writes : List ℕ → Outcome
   Refuses : Refusal → Outcome
 
--- the bits of a stage
-abbrev pub stage_bits : Stage → Rate → ℕ → List ℕ → List ℕ
-stage_bits Scrambled = field_at
-stage_bits Coded = code_at
-stage_bits Kept = kept_at
-stage_bits Interleaved = interleaved_at
-
--- the text of a stage: its bits as characters, and a newline
+-- the text that `show` writes of a stage
 abbrev pub stage_text_of : Stage → Rate → ℕ → List ℕ → List ℕ
-stage_text_of stage rate seed psdu = text_of_bits (stage_bits stage rate seed psdu)
+stage_text_of Scrambled rate seed psdu = text_of_bits (field_at rate seed psdu)
+stage_text_of Coded rate seed psdu = text_of_bits (code_at rate seed psdu)
+stage_text_of Kept rate seed psdu = text_of_bits (kept_at rate seed psdu)
+stage_text_of Interleaved rate seed psdu = text_of_bits (interleaved_at rate seed psdu)
 
--- the outcome of a command that reads a PSDU, 1 to 4095 octets, and writes this of it
+-- the outcome of a command that reads a PSDU and writes this of it
 abbrev pub psdu_outcome : (List ℕ → List ℕ) → List ℕ → Outcome
 psdu_outcome answer bytes =
     if length bytes == 0 then Refuses EmptyPsdu
-    else (if nat_lt 4095 (length bytes) then Refuses LongPsdu else Writes (answer bytes))
+    else (if nat_lt most_octets (length bytes) then Refuses LongPsdu else Writes (answer bytes))
 
--- how many bytes of input a command takes at the most, before it refuses the next
-abbrev pub input_limit : Command → ℕ
-input_limit (Bits rate seed) = 4095
-input_limit (Show stage rate seed) = 4095
+-- the outcome of a command, its words and the bytes of the input
+abbrev pub CommandOutcome : Command → List (List ℕ) → List ℕ → Outcome → Type 0
+CommandOutcome (Bits rate seed) words bytes outcome = outcome ≡ psdu_outcome (stage_text_of Kept rate seed) bytes
+CommandOutcome (Show stage rate seed) words bytes outcome = outcome ≡ psdu_outcome (stage_text_of stage rate seed) bytes
+
+-- words and the bytes of the input have an outcome: that of the command which the words say, or `Words`
+pub data HasOutcome (words : List (List ℕ)) (bytes : List ℕ) (outcome : Outcome) : Type 0 where
+  of_command : (command : Command) → Say words command → CommandOutcome command words bytes outcome → HasOutcome words bytes outcome
+  of_no_command : SayNothing words → outcome ≡ Refuses Words → HasOutcome words bytes outcome
+
+-- the same of the bytes that a source tells
+abbrev pub IsOutcome : List (List ℕ) → Option (List ℕ) → Outcome → Type 0
+IsOutcome words left outcome = IfSome left (λ bytes. HasOutcome words bytes outcome)
+
+-- the words are refused for this cause, whatever the input holds
+abbrev pub RefusesWords : List (List ℕ) → Refusal → Type 0
+RefusesWords words refusal = (status_of refusal ≡ status.BadWords) × ((bytes : List ℕ) → HasOutcome words bytes (Refuses refusal))
+
+-- the words are refused
+abbrev pub AreRefused : List (List ℕ) → Type 0
+AreRefused words = (refusal : Refusal) × RefusesWords words refusal
+
+-- the most bytes of input that a command accepts, and the most that it takes
+abbrev pub most_accepted : Command → ℕ
+most_accepted (Bits rate seed) = most_octets
+most_accepted (Show stage rate seed) = most_octets
+
+abbrev pub most_taken : Command → ℕ
+most_taken (Bits rate seed) = most_octets + 1
+most_taken (Show stage rate seed) = most_octets + 1
+
+-- the statuses that may follow an outcome: its own, a fault of a port, or want of memory
+abbrev pub MayFollow : Outcome → Status → Type 0
+MayFollow (Writes bytes) ended =
+    (ended ≡ status.Ok) ⊎ (ended ≡ status.ReadFault) ⊎ (ended ≡ status.WriteFault) ⊎ (ended ≡ status.NoMemory)
+MayFollow (Refuses refusal) ended = (ended ≡ status_of refusal) ⊎ (ended ≡ status.ReadFault) ⊎ (ended ≡ status.NoMemory)
 
 -- a command reads its input to the end
 abbrev pub ReadsInput : Command → Type 0
 ReadsInput (Bits rate seed) = Unit {0}
 ReadsInput (Show stage rate seed) = Unit {0}
-
--- the outcome of a command and the bytes of the input
-abbrev pub CommandOutcome : Command → List ℕ → Outcome → Type 0
-CommandOutcome (Bits rate seed) bytes outcome = outcome ≡ psdu_outcome (stage_text_of Kept rate seed) bytes
-CommandOutcome (Show stage rate seed) bytes outcome = outcome ≡ psdu_outcome (stage_text_of stage rate seed) bytes
-
--- words and the bytes of the input have an outcome: that of the command which the words say, or `Words`
-pub data HasOutcome (words : List (List ℕ)) (bytes : List ℕ) (outcome : Outcome) : Type 0 where
-  of_command : (command : Command) → Say words command → CommandOutcome command bytes outcome → HasOutcome words bytes outcome
-  of_no_command : SayNothing words → outcome ≡ Refuses Words → HasOutcome words bytes outcome
-
--- the words are refused, whatever the input holds
-abbrev pub AreRefused : List (List ℕ) → Type 0
-AreRefused words = (refusal : Refusal) × (status_of refusal ≡ status.BadWords)
-    × ((bytes : List ℕ) → HasOutcome words bytes (Refuses refusal))
-
--- a fact where the outcome writes, or of the refusal where it refuses
-abbrev pub IfWrites : Outcome → Type 0 → Type 0
-IfWrites (Writes bytes) P = P
-IfWrites (Refuses refusal) P = Unit {0}
-
-abbrev pub IfRefuses : Outcome → (Refusal → Type 0) → Type 0
-IfRefuses (Writes bytes) P = Unit {0}
-IfRefuses (Refuses refusal) P = P refusal
-
--- a fact of the outcome of words and the bytes that a source tells
-abbrev pub IfOutcome : List (List ℕ) → Option (List ℕ) → (Outcome → Type 0) → Type 0
-IfOutcome words None P = Unit {0}
-IfOutcome words (Some bytes) P = (outcome : Outcome) → HasOutcome words bytes outcome → P outcome

@@ -5,8 +5,8 @@ mod field;
 mod laws;
 mod program;
 mod refusals;
-mod stages;
-mod words;
+pub mod stages;
+pub mod words;
 
 use modem_ports::{StdSink, StdSource, Steps};
 use program::run;

@@ -1,11 +1,12 @@
 //! One run of the program, over any ports.
 ghost use Rattle.std.specs.Prelude.{◌≡◌, ◌≢◌, ◌↔◌, ◌+◌, ◌≤◌, ◌⊎◌, ℕ, List, length, map, string_bytes, IfOk, IfErr, IfSome, OnOk, IsErrOf};
 ghost use Rattle.modem_ports.specs.Counts.{Rose};
-ghost use Rattle.modem_ports.specs.Told.{GivesAtMost, IsAtEnd};
+ghost use Rattle.modem_ports.specs.Told.{GivesAtMost, GivesExactly, IsAtEnd};
+ghost use Rattle.data_field.specs.Field.{most_octets};
 ghost use Rattle.modem_cli.specs.declared.words.Command.{Command};
 ghost use Rattle.modem_cli.specs.declared.refusals.Refusal.{Refusal};
-ghost use Rattle.modem_cli.specs.Grammar.{IsInRange, Say, SayNothing};
-ghost use Rattle.modem_cli.specs.Outcome.{Writes, Refuses, IfOutcome, CommandOutcome, AreRefused, IfWrites, IfRefuses, ReadsInput, input_limit, psdu_outcome, stage_text_of};
+ghost use Rattle.modem_cli.specs.Grammar.{IsInRange, Say, SayNothing, texts_of};
+ghost use Rattle.modem_cli.specs.Outcome.{Writes, Refuses, CommandOutcome, HasOutcome, IsOutcome, AreRefused, MayFollow, Outcome, ReadsInput, most_accepted, most_taken, psdu_outcome, stage_text_of};
 ghost use Rattle.modem_cli.specs.Refusals.{status_of};
 ghost use Rattle.modem_cli.specs.Report.{IsDecided, IsReported, TakesAnswer, TakesAnswerPrefix, TakesReport};
 
@@ -16,6 +17,9 @@ use modem_ports::{ReadAllFault, Sink, Source, Steps, read_all, write_all};
 use ofdm_scrambler::Seed;
 use rate_table::Rate;
 use std::alloc::Global;
+
+/// The most octets of a PSDU.
+const MOST_OCTETS: usize = 4095;
 
 /// One run: the words are those of the command line without the program's name, `source` is read where the command
 /// reads its input, `out` takes the command's bytes and `report` the line of a refusal. It has no condition, and `out`
@@ -29,33 +33,48 @@ pub fn run<S: Source, K: Sink, E: Sink>(
     _steps: &mut Steps,
 ) -> Status
     // What is written: with `Ok` all bytes of the outcome, with `WriteFault` a prefix of them, else nothing.
-    ensures written { result ≡ Status.Ok → IfOutcome (map string_bytes words.now.items) (S.left source.old)
-        (TakesAnswer (K.taken out.old) (K.taken out.new)) }
-    ensures written_in_part { result ≡ Status.WriteFault → IfOutcome (map string_bytes words.now.items) (S.left source.old)
-        (TakesAnswerPrefix (K.taken out.old) (K.taken out.new)) }
+    ensures written { result ≡ Status.Ok
+        → TakesAnswer (texts_of words.now) (S.left source.old) (K.taken out.old) (K.taken out.new) }
+    ensures written_in_part { result ≡ Status.WriteFault
+        → TakesAnswerPrefix (texts_of words.now) (S.left source.old) (K.taken out.old) (K.taken out.new) }
     ensures out_untouched { result ≢ Status.Ok → result ≢ Status.WriteFault → out.new ≡ out.old }
 
     // What is reported: with `Ok` nothing, else the line of the refusal.
     ensures unreported { result ≡ Status.Ok → report.new ≡ report.old }
-    ensures reported { result ≢ Status.Ok → IsReported (map string_bytes words.now.items) (S.left source.old) result
+    ensures reported { result ≢ Status.Ok → IsReported (texts_of words.now) (S.left source.old) result
         (E.taken report.old) (E.taken report.new) (Rose (E.faults report.old) (E.faults report.new)) }
 
     // What is read.
-    ensures read { result ≡ Status.Ok → (command : Command) → Say (map string_bytes words.now.items) command → ReadsInput command → IsAtEnd (S.left source.new) }
-    ensures read_at_most { (command : Command) → Say (map string_bytes words.now.items) command
-        → GivesAtMost (input_limit command + 1) (S.left source.old) (S.left source.new) }
+    ensures read { (result ≡ Status.Ok) ⊎ (result ≡ Status.WriteFault) → (command : Command)
+        → Say (texts_of words.now) command → ReadsInput command → IsAtEnd (S.left source.new) }
+    ensures read_at_most { (command : Command) → Say (texts_of words.now) command
+        → GivesAtMost (most_taken command) (S.left source.old) (S.left source.new) }
+    ensures read_to_limit { result ≡ Status.BadInput → IfSome (S.left source.old) (λ bytes.
+        HasOutcome (texts_of words.now) bytes (Refuses Refusal.LongPsdu)
+        → GivesExactly (most_octets + 1) (S.left source.old) (S.left source.new)) }
     ensures source_untouched { result ≡ Status.BadWords → source.new ≡ source.old }
 
     // When each status comes.
-    ensures bad_words { (result ≡ Status.BadWords) ↔ AreRefused (map string_bytes words.now.items) }
+    ensures bad_words { (result ≡ Status.BadWords) ↔ AreRefused (texts_of words.now) }
     ensures read_fault { result ≡ Status.ReadFault → Rose (S.faults source.old) (S.faults source.new) }
+    ensures read_fault_within { result ≡ Status.ReadFault → (command : Command)
+        → Say (texts_of words.now) command
+        → GivesAtMost (most_accepted command) (S.left source.old) (S.left source.new) }
     ensures write_fault { result ≡ Status.WriteFault → Rose (K.faults out.old) (K.faults out.new) }
-    ensures answers { ¬ Rose (S.faults source.old) (S.faults source.new) → ¬ Rose (K.faults out.old) (K.faults out.new)
-        → IfOutcome (map string_bytes words.now.items) (S.left source.old)
-        (λ outcome. IfWrites outcome ((result ≡ Status.Ok) ⊎ (result ≡ Status.NoMemory))) }
+    ensures follows { IfSome (S.left source.old) (λ bytes. (outcome : Outcome)
+        → HasOutcome (texts_of words.now) bytes outcome → MayFollow outcome result) }
+    ensures answers { ¬ Rose (S.faults source.old) (S.faults source.new)
+        → ¬ Rose (K.faults out.old) (K.faults out.new)
+        → IfSome (S.left source.old) (λ bytes. (answer : List ℕ) → HasOutcome (texts_of words.now) bytes (Writes answer)
+        → (result ≡ Status.Ok) ⊎ (result ≡ Status.NoMemory)) }
     ensures refuses { ¬ Rose (S.faults source.old) (S.faults source.new)
-        → IfOutcome (map string_bytes words.now.items) (S.left source.old)
-        (λ outcome. IfRefuses outcome (λ refusal. (result ≡ status_of refusal) ⊎ (result ≡ Status.NoMemory))) }
+        → IfSome (S.left source.old) (λ bytes. (refusal : Refusal) → HasOutcome (texts_of words.now) bytes (Refuses refusal)
+        → (result ≡ status_of refusal) ⊎ (result ≡ Status.NoMemory)) }
+
+    // The counts of faults never fall.
+    ensures source_counted { S.faults source.old ≤ S.faults source.new }
+    ensures out_counted { K.faults out.old ≤ K.faults out.new }
+    ensures report_counted { E.faults report.old ≤ E.faults report.new }
 {
     match execute(alloc, words, source, out) {
         Ok(()) => Status::Ok,
@@ -68,6 +87,7 @@ fn refuse<E: Sink>(report: &mut E, refusal: Refusal) -> Status
     ensures status { result ≡ status_of refusal }
     ensures reported { TakesReport refusal (E.taken report.old) (E.taken report.new)
         (Rose (E.faults report.old) (E.faults report.new)) }
+    ensures counted { E.faults report.old ≤ E.faults report.new }
 {
     let line = line_of(&refusal);
     let _ = write_all(report, line.as_slice());
@@ -81,20 +101,29 @@ fn execute<S: Source, K: Sink>(
     source: &mut S,
     out: &mut K,
 ) -> Result<(), Refusal>
-    ensures ok { OnOk result (IfOutcome (map string_bytes words.now.items) (S.left source.old)
-        (TakesAnswer (K.taken out.old) (K.taken out.new))) }
-    ensures read { OnOk result ((command : Command) → Say (map string_bytes words.now.items) command → ReadsInput command → IsAtEnd (S.left source.new)) }
-    ensures read_at_most { (command : Command) → Say (map string_bytes words.now.items) command
-        → GivesAtMost (input_limit command + 1) (S.left source.old) (S.left source.new) }
+    ensures ok { OnOk result (TakesAnswer (texts_of words.now) (S.left source.old) (K.taken out.old) (K.taken out.new)) }
+    ensures read { OnOk result ((command : Command) → Say (texts_of words.now) command
+        → ReadsInput command → IsAtEnd (S.left source.new)) }
+    ensures read_at_most { (command : Command) → Say (texts_of words.now) command
+        → GivesAtMost (most_taken command) (S.left source.old) (S.left source.new) }
+    ensures read_whole { IsErrOf result Refusal.WriteFault → (command : Command)
+        → Say (texts_of words.now) command → ReadsInput command → IsAtEnd (S.left source.new) }
+    ensures read_to_limit { IsErrOf result Refusal.LongPsdu
+        → GivesExactly (most_octets + 1) (S.left source.old) (S.left source.new) }
+    ensures read_fault_within { IsErrOf result Refusal.ReadFault → (command : Command)
+        → Say (texts_of words.now) command
+        → GivesAtMost (most_accepted command) (S.left source.old) (S.left source.new) }
     ensures outcome { IfErr result (λ refusal. IsDecided (status_of refusal)
-        → IfOutcome (map string_bytes words.now.items) (S.left source.old) (λ outcome. outcome ≡ Refuses refusal)) }
-    ensures words { IsErrOf result Refusal.Words ↔ SayNothing (map string_bytes words.now.items) }
+        → IsOutcome (texts_of words.now) (S.left source.old) (Refuses refusal)) }
+    ensures words { IsErrOf result Refusal.Words ↔ SayNothing (texts_of words.now) }
     ensures source_untouched { IsErrOf result Refusal.Words → source.new ≡ source.old }
     ensures out_untouched { IfErr result (λ refusal. refusal ≢ Refusal.WriteFault → out.new ≡ out.old) }
-    ensures in_part { IsErrOf result Refusal.WriteFault → IfOutcome (map string_bytes words.now.items) (S.left source.old)
-        (TakesAnswerPrefix (K.taken out.old) (K.taken out.new)) }
+    ensures in_part { IsErrOf result Refusal.WriteFault
+        → TakesAnswerPrefix (texts_of words.now) (S.left source.old) (K.taken out.old) (K.taken out.new) }
     ensures read_fault { IsErrOf result Refusal.ReadFault → Rose (S.faults source.old) (S.faults source.new) }
     ensures write_fault { IsErrOf result Refusal.WriteFault → Rose (K.faults out.old) (K.faults out.new) }
+    ensures source_counted { S.faults source.old ≤ S.faults source.new }
+    ensures out_counted { K.faults out.old ≤ K.faults out.new }
 {
     let Some(command) = read_words(words) else {
         return Err(Refusal::Words);
@@ -109,13 +138,19 @@ fn execute<S: Source, K: Sink>(
 /// The bytes that a command writes.
 fn answer_of<S: Source>(alloc: Global, command: Command, source: &mut S) -> Result<Vec<u8>, Refusal>
     requires { IsInRange command }
-    ensures ok { IfOk result (λ answer. IfSome (S.left source.old) (λ bytes. CommandOutcome command bytes (Writes answer.items))) }
+    ensures ok { IfOk result (λ answer. IfSome (S.left source.old) (λ bytes.
+        (words : List (List ℕ)) → CommandOutcome command words bytes (Writes answer.items))) }
     ensures end { IfOk result (λ _. IsAtEnd (S.left source.new)) }
-    ensures read_at_most { GivesAtMost (input_limit command + 1) (S.left source.old) (S.left source.new) }
+    ensures read_at_most { GivesAtMost (most_taken command) (S.left source.old) (S.left source.new) }
     ensures outcome { IfErr result (λ refusal. IsDecided (status_of refusal)
-        → IfSome (S.left source.old) (λ bytes. CommandOutcome command bytes (Refuses refusal))) }
+        → IfSome (S.left source.old) (λ bytes. (words : List (List ℕ)) → CommandOutcome command words bytes (Refuses refusal))) }
     ensures kind { IfErr result (λ refusal. (refusal ≢ Refusal.Words) × (refusal ≢ Refusal.WriteFault)) }
     ensures read_fault { IsErrOf result Refusal.ReadFault → Rose (S.faults source.old) (S.faults source.new) }
+    ensures read_to_limit { IsErrOf result Refusal.LongPsdu
+        → GivesExactly (most_octets + 1) (S.left source.old) (S.left source.new) }
+    ensures read_fault_within { IsErrOf result Refusal.ReadFault
+        → GivesAtMost (most_accepted command) (S.left source.old) (S.left source.new) }
+    ensures counted { S.faults source.old ≤ S.faults source.new }
 {
     match command {
         Command::Bits { rate, seed } => psdu_text(alloc, Stage::Kept, rate, seed, source),
@@ -133,11 +168,16 @@ fn psdu_text<S: Source>(
 ) -> Result<Vec<u8>, Refusal>
     ensures ok { IfOk result (λ text. IfSome (S.left source.old) (λ bytes. Writes text.items ≡ psdu_outcome (stage_text_of stage rate seed) bytes)) }
     ensures end { IfOk result (λ _. IsAtEnd (S.left source.new)) }
-    ensures read_at_most { GivesAtMost 4096 (S.left source.old) (S.left source.new) }
+    ensures read_at_most { GivesAtMost (most_octets + 1) (S.left source.old) (S.left source.new) }
     ensures outcome { IfErr result (λ refusal. IsDecided (status_of refusal)
         → IfSome (S.left source.old) (λ bytes. Refuses refusal ≡ psdu_outcome (stage_text_of stage rate seed) bytes)) }
     ensures kind { IfErr result (λ refusal. (refusal ≢ Refusal.Words) × (refusal ≢ Refusal.WriteFault)) }
     ensures read_fault { IsErrOf result Refusal.ReadFault → Rose (S.faults source.old) (S.faults source.new) }
+    ensures read_to_limit { IsErrOf result Refusal.LongPsdu
+        → GivesExactly (most_octets + 1) (S.left source.old) (S.left source.new) }
+    ensures read_fault_within { IsErrOf result Refusal.ReadFault
+        → GivesAtMost most_octets (S.left source.old) (S.left source.new) }
+    ensures counted { S.faults source.old ≤ S.faults source.new }
 {
     let psdu = read_psdu(alloc, source)?;
     Ok(stage_text(alloc, stage, rate, seed, &psdu)?)
@@ -147,15 +187,20 @@ fn psdu_text<S: Source>(
 fn read_psdu<S: Source>(alloc: Global, source: &mut S) -> Result<Vec<u8>, Refusal>
     ensures psdu { IfOk result (λ psdu. IfSome (S.left source.old) (λ bytes. psdu.items ≡ bytes)) }
     ensures some { IfOk result (λ psdu. 1 ≤ length psdu.items) }
-    ensures most { IfOk result (λ psdu. length psdu.items ≤ 4095) }
+    ensures most { IfOk result (λ psdu. length psdu.items ≤ most_octets) }
     ensures end { IfOk result (λ _. IsAtEnd (S.left source.new)) }
-    ensures read_at_most { GivesAtMost 4096 (S.left source.old) (S.left source.new) }
+    ensures read_at_most { GivesAtMost (most_octets + 1) (S.left source.old) (S.left source.new) }
     ensures outcome { IfErr result (λ refusal. IsDecided (status_of refusal)
         → IfSome (S.left source.old) (λ bytes. (answer : List ℕ → List ℕ) → Refuses refusal ≡ psdu_outcome answer bytes)) }
     ensures kind { IfErr result (λ refusal. (refusal ≢ Refusal.Words) × (refusal ≢ Refusal.WriteFault)) }
     ensures read_fault { IsErrOf result Refusal.ReadFault → Rose (S.faults source.old) (S.faults source.new) }
+    ensures read_to_limit { IsErrOf result Refusal.LongPsdu
+        → GivesExactly (most_octets + 1) (S.left source.old) (S.left source.new) }
+    ensures read_fault_within { IsErrOf result Refusal.ReadFault
+        → GivesAtMost most_octets (S.left source.old) (S.left source.new) }
+    ensures counted { S.faults source.old ≤ S.faults source.new }
 {
-    let psdu = match read_all(alloc, source, 4095) {
+    let psdu = match read_all(alloc, source, MOST_OCTETS) {
         Ok(psdu) => psdu,
         Err(ReadAllFault::Long) => return Err(Refusal::LongPsdu),
         Err(ReadAllFault::Failed) => return Err(Refusal::ReadFault),

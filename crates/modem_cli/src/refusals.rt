@@ -11,13 +11,13 @@ use std::marker::Model;
 pub enum Status {
     /// The command's bytes were written.
     Ok,
-    /// The words say no command.
+    /// The words are refused.
     BadWords,
     /// The input is refused.
     BadInput,
     /// No frame is found.
     NoFrame,
-    /// The first frame is cut.
+    /// A frame is cut.
     CutFrame,
     /// The source failed.
     ReadFault,
@@ -105,7 +105,8 @@ impl Model for Line {
 impl Line {
     /// The line's bytes. Takes no memory.
     pub fn as_slice(&self) -> &[u8]
-        ensures { result.now ≡ self.now }
+        ensures value { result.now ≡ self.now }
+        ensures short { length result.now ≤ 80 }
     {
         &self.bytes[..self.len]
     }

@@ -1,7 +1,8 @@
 //! The texts of the stages.
 ghost use Rattle.std.specs.Prelude.{◌≡◌, ◌≤◌, length, IfOk};
 ghost use Rattle.bit_lists.specs.Bits.{AreBits};
-ghost use Rattle.modem_cli.specs.Outcome.{stage_bits, stage_text_of};
+ghost use Rattle.bit_lists.specs.Text.{text_of_bits};
+ghost use Rattle.modem_cli.specs.Outcome.{stage_text_of};
 
 use crate::field::{frame_code, frame_field, interleaved_code, kept_code};
 use crate::words::Stage;
@@ -37,7 +38,7 @@ fn stage_bits(
 ) -> Result<Vec<u8>, AllocError>
     requires some { 1 ≤ length psdu.now }
     requires most { length psdu.now ≤ 4095 }
-    ensures value { IfOk result (λ bits. bits.items ≡ stage_bits stage rate seed psdu.now) }
+    ensures value { IfOk result (λ bits. text_of_bits bits.items ≡ stage_text_of stage rate seed psdu.now) }
     ensures bits { IfOk result (λ bits. AreBits bits.items) }
 {
     match stage {

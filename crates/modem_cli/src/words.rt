@@ -1,6 +1,7 @@
 //! The words of the command line.
-ghost use Rattle.std.specs.Prelude.{◌≡◌, ◌<◌, ◌^◌, [], ◌∷◌, codes, decimal, map, string_bytes, IfSome, IfNone};
-ghost use Rattle.modem_cli.specs.Grammar.{IsSeed, NamesNoRate, NamesNoStage, NumbersNoSeed, Say, SayNothing, WritesNoNumber, stage_word};
+ghost use Rattle.std.specs.Prelude.{◌≡◌, ◌<◌, ◌^◌, [], ◌∷◌, codes, decimal, IfSome, IfNone};
+ghost use Rattle.modem_cli.specs.Grammar.{NamesNoRate, NamesNoStage, NumbersNoSeed, Say, SayNothing, WritesNoNumber, stage_word, texts_of};
+ghost use Rattle.ofdm_scrambler.specs.Sequence.{IsSeed};
 ghost use Rattle.rate_table.specs.Table.{row_of};
 
 use itoa::Buffer;
@@ -38,8 +39,8 @@ pub enum Command {
 
 /// The command that the words say, without the program's name: `None` exactly where they say none. Takes no memory.
 pub fn read_words(words: &Vec<String>) -> Option<Command>
-    ensures command { IfSome result (Say (map string_bytes words.now.items)) }
-    ensures none { IfNone result (SayNothing (map string_bytes words.now.items)) }
+    ensures command { IfSome result (Say (texts_of words.now)) }
+    ensures none { IfNone result (SayNothing (texts_of words.now)) }
 {
     match words.as_slice() {
         [name, rate, seed] if name.as_str() == "bits" => read_bits(rate.as_str(), seed.as_str()),

@@ -1,4 +1,4 @@
--- Counts of faults, calls and steps.
+-- Counts of faults, calls and steps (own).
 use Rattle.std.specs.Prelude.{ℕ, ◌+◌, ◌-◌, ◌^◌, ◌<◌, ◌≡◌, ◌⊎◌, min}
 
 -- the last number of a `u64`, at which a count stands still

@@ -1,5 +1,5 @@
--- What a port tells of its bytes: the bytes that a source has left, and those that a sink has taken. A port that
--- tells nothing has `None`, and goes on telling nothing.
+-- What a port tells of its bytes (own): the bytes that a source has left, and those that a sink has taken. A port
+-- that tells nothing has `None`, and goes on telling nothing.
 use Rattle.std.specs.Prelude.{ℕ, ◌≤◌, ◌≡◌, List, [], ◌++◌, length, take, Option, Some, None, IfSome}
 
 -- a source gave a piece: it was the front of what was left, and the rest is left

@@ -2,7 +2,8 @@
 use Rattle.std.proofs.Common.{◌≡◌, ℕ, zero, suc, ◌+◌, ◌*◌, ◌%◌, ◌<◌, List, map, length, slice_index, bit_xor, refl, arith}
 use Rattle.std.specs.List.{range_with_len}
 use Rattle.std.proofs.lemmas.List.FromFn.{length-map-range_with_len, get_or-map-range_with_len}
-use Rattle.bit_lists.specs.Bits.{bit_of, exclusive_or, IsBit, AreBits}
+use Rattle.bit_lists.specs.Bits.{exclusive_or, IsBit, AreBits}
+use Rattle.std.specs.Int.{bit_at}
 use Rattle.ofdm_scrambler.specs.Sequence.{from_minus_seven, scrambler_bit, scrambler_sequence, scrambled}
 
 -- what holds of each value of a function holds of each element of its list
@@ -12,13 +13,13 @@ All-map-range_with_len f count each =
 
 -- the register holds the seven bits before place n: bit j is z(n - 1 - j)
 pub record HoldsBefore (number n register : ℕ) : Type 0 where
-  pub one_ago : bit_of register 0 ≡ from_minus_seven number (n + 6)
-  pub two_ago : bit_of register 1 ≡ from_minus_seven number (n + 5)
-  pub three_ago : bit_of register 2 ≡ from_minus_seven number (n + 4)
-  pub four_ago : bit_of register 3 ≡ from_minus_seven number (n + 3)
-  pub five_ago : bit_of register 4 ≡ from_minus_seven number (n + 2)
-  pub six_ago : bit_of register 5 ≡ from_minus_seven number (n + 1)
-  pub seven_ago : bit_of register 6 ≡ from_minus_seven number n
+  pub one_ago : bit_at register 0 ≡ from_minus_seven number (n + 6)
+  pub two_ago : bit_at register 1 ≡ from_minus_seven number (n + 5)
+  pub three_ago : bit_at register 2 ≡ from_minus_seven number (n + 4)
+  pub four_ago : bit_at register 3 ≡ from_minus_seven number (n + 3)
+  pub five_ago : bit_at register 4 ≡ from_minus_seven number (n + 2)
+  pub six_ago : bit_at register 5 ≡ from_minus_seven number (n + 1)
+  pub seven_ago : bit_at register 6 ≡ from_minus_seven number n
 
 -- the recurrence, at a place written as a sum
 pub scrambler_bit_is : (number n : ℕ) → scrambler_bit number n ≡ exclusive_or (from_minus_seven number n) (from_minus_seven number (n + 3))
@@ -42,7 +43,7 @@ HoldsBefore-start number = record {
 }
 
 -- the bit that a register makes is the bit of its place
-pub next_bit_is : (number n register bit : ℕ) → HoldsBefore number n register → bit ≡ exclusive_or (bit_of register 6) (bit_of register 3) → bit ≡ scrambler_bit number n
+pub next_bit_is : (number n register bit : ℕ) → HoldsBefore number n register → bit ≡ exclusive_or (bit_at register 6) (bit_at register 3) → bit ≡ scrambler_bit number n
 next_bit_is number n register bit held made = rw (scrambler_bit_is, ← held.seven_ago, ← held.four_ago) made
 
 -- each bit of the sequence is a bit

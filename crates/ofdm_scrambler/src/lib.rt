@@ -2,8 +2,9 @@
 #![tactic(auto)]
 
 ghost use Rattle.std.specs.Prelude.{◌≡◌, ◌≤◌, ◌<◌, ◌↔◌, ◌*◌, ◌+◌, ◌%◌, length, IsSome, IfSome};
-ghost use Rattle.bit_lists.specs.Bits.{AreBits, bit_of, exclusive_or};
-ghost use Rattle.ofdm_scrambler.specs.Sequence.{scrambler_sequence, scrambled};
+ghost use Rattle.bit_lists.specs.Bits.{AreBits, exclusive_or};
+ghost use Rattle.std.specs.Int.{bit_at};
+ghost use Rattle.ofdm_scrambler.specs.Sequence.{IsSeed, scrambler_sequence, scrambled};
 
 use std::marker::Model;
 
@@ -17,13 +18,14 @@ pub struct Seed {
 }
 
 impl Model for Seed {
-    ghost use Rattle.std.specs.Prelude.{ℕ, ◌≤◌};
+    ghost use Rattle.std.specs.Prelude.{ℕ};
+    ghost use Rattle.ofdm_scrambler.specs.Sequence.{IsSeed};
 
     ghost Value = { ℕ };
 
     ghost view = { λ seed. seed.number };
 
-    ghost invariant = { λ seed. (1 ≤ seed.number) × (seed.number ≤ 127) };
+    ghost invariant = { λ seed. IsSeed seed.number };
 
     ghost inverse = { λ number. record { number = number } };
 }
@@ -32,7 +34,7 @@ impl Seed {
     /// The seed with a number, from 1 to 127: bit i - 1 of the number is x_i, the bit z(-i) of the sequence (the number
     /// is own). `None` exactly where the number is 0 or above 127. Takes no memory.
     pub fn new(number: u8) -> Option<Seed>
-        ensures good { IsSome result ↔ ((1 ≤ number) × (number ≤ 127)) }
+        ensures good { IsSome result ↔ IsSeed number }
         ensures value { IfSome result (λ seed. seed ≡ number) }
     {
         match number {
@@ -70,7 +72,7 @@ impl Register {
 
     // The next bit of the sequence, which the register then holds as its bit 0.
     fn next_bit(&mut self) -> u8
-        ensures bit { result ≡ exclusive_or (bit_of self.old.bits 6) (bit_of self.old.bits 3) }
+        ensures bit { result ≡ exclusive_or (bit_at self.old.bits 6) (bit_at self.old.bits 3) }
         ensures shifted { self.new.bits ≡ (2 * self.old.bits + result) % 128 }
     {
         let bit = ((self.bits >> 6) ^ (self.bits >> 3)) & 1;

@@ -30,6 +30,6 @@ period_of Half = 1
 period_of TwoThirds = 2
 period_of ThreeQuarters = 3
 
--- one kept bit for each step, and one more for each period that is begun
+-- the same count by periods (own): a kept bit for each step, and one more for each period that is begun
 abbrev pub count_by_periods : CodeRate → ℕ → ℕ
 count_by_periods rate steps = steps + ceiling steps (period_of rate)

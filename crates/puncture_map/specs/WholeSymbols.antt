@@ -1,5 +1,5 @@
 -- That every symbol has exactly N_CBPS kept bits, since puncturing runs through the field without a restart and a symbol's
--- N_DBPS steps are whole periods.
+-- N_DBPS steps are whole periods (a consequence of IEEE Std 802.11-2012, 18.3.2.3 and 18.3.5.6).
 use Rattle.std.specs.Prelude.{◌≡◌, ℕ, ◌*◌, ◌≤◌, List, length, take}
 use Rattle.rate_table.specs.declared.CodeRate.{CodeRate}
 use Rattle.rate_table.specs.declared.Rate.{Rate}

@@ -1,5 +1,5 @@
--- The eight rates at 20 MHz spacing (IEEE Std 802.11-2012, 18.2.2.4, 18.3.2.3 and 18.3.4.2; the two bounds and the number of a
--- pattern are own).
+-- The eight rates at 20 MHz spacing (IEEE Std 802.11-2012, 18.3.2.3 and 18.3.4.2; the two bounds and the number of a pattern
+-- are own).
 use Rattle.std.specs.Prelude.{ℕ, ◌+◌, ◌*◌, List, [], ◌∷◌, slice_index_or}
 use Rattle.rate_table.specs.declared.Modulation.{Modulation}
 use Rattle.rate_table.specs.declared.Modulation.TheVariants.{Bpsk, Qpsk, Qam16, Qam64}
@@ -39,6 +39,6 @@ row_of R54 = record { mbps = 54; modulation = Qam64; code_rate = ThreeQuarters; 
 abbrev pub rates : List Rate
 rates = R6 ∷ R9 ∷ R12 ∷ R18 ∷ R24 ∷ R36 ∷ R48 ∷ R54 ∷ []
 
--- the rate with an index, 0 to 7, in that order
+-- the rate with an index, 0 to 7, in that order (own)
 abbrev pub rate_at : ℕ → Rate
-rate_at index = slice_index_or rates index R54
+rate_at index = slice_index_or rates index R6

@@ -1,10 +1,10 @@
-//! The eight rates at 20 MHz channel spacing (IEEE Std 802.11-2012, 18.2.2.4, 18.3.2.3 and 18.3.4.2). No call takes memory.
+//! The eight rates at 20 MHz channel spacing (IEEE Std 802.11-2012, 18.3.2.3 and 18.3.4.2). No call takes memory.
 #![tactic(auto)]
 
 ghost use Rattle.std.specs.Prelude.{◌≡◌, ◌≢◌, ◌↔◌, ℕ, ◌*◌, ◌<◌, ◌≤◌, IfSome, IfNone, IsNone};
 ghost use Rattle.rate_table.specs.declared.Rate.{Rate};
 ghost use Rattle.rate_table.specs.Table.{row_of, rate_at};
-ghost use Rattle.rate_table.specs.Symbols.{bits_to_tail, symbol_count};
+ghost use Rattle.rate_table.specs.Symbols.{bits_through_tail, symbol_count};
 
 /// The modulation of a data carrier (IEEE Std 802.11-2012, 18.3.5.8).
 #[derive(Clone, Copy, Debug, PartialEq, Eq)]
@@ -23,7 +23,7 @@ pub enum CodeRate {
     ThreeQuarters,
 }
 
-/// A data rate, named by its megabits a second (IEEE Std 802.11-2012, 18.2.2.4).
+/// A data rate, named by its megabits a second (IEEE Std 802.11-2012, 18.3.2.3).
 #[derive(Clone, Copy, Debug, PartialEq, Eq)]
 pub enum Rate {
     R6,
@@ -207,12 +207,12 @@ impl Rate {
         requires some { 1 ≤ length }
         requires most { length ≤ 4095 }
         ensures ceiling { result ≡ symbol_count (row_of self).field_bits length }
-        ensures enough { bits_to_tail length ≤ result * (row_of self).field_bits }
-        ensures none_fewer { (fewer : ℕ) → fewer < result → fewer * (row_of self).field_bits < bits_to_tail length }
+        ensures enough { bits_through_tail length ≤ result * (row_of self).field_bits }
+        ensures none_fewer { (fewer : ℕ) → fewer < result → fewer * (row_of self).field_bits < bits_through_tail length }
         ensures at_least { 1 ≤ result }
         ensures at_most { result ≤ 1366 }
     {
-        let bits_to_tail = 22 + 8 * u32::from(length);
-        bits_to_tail.div_ceil(self.field_bits() as u32)
+        let bits_through_tail = 22 + 8 * u32::from(length);
+        bits_through_tail.div_ceil(self.field_bits() as u32)
     }
 }

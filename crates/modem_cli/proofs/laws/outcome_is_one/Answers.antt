@@ -1,4 +1,5 @@
-use Rattle.modem_cli.proofs.Decided.{some_outcome, only_outcome}
+use Rattle.modem_cli.proofs.Decided.{some_outcome}
+use Rattle.modem_cli.proofs.Outcomes.{only_outcome}
 use Rattle.modem_cli.proofs.laws.outcome_is_one.Goals as goal
 
 pub returns : goal.returns

@@ -7,7 +7,7 @@ use Rattle.modem_cli.proofs.program.refuse.Goals as goal
 
 pub returns-clause-reported : goal.returns-clause-reported
 returns-clause-reported g c =
-    let line : c.as_slice.result.now ≡ report_line c.args.refusal = c.as_slice.ensures ∙ c.line_of-line.ensures in
+    let line : c.as_slice.result.now ≡ report_line c.args.refusal = c.as_slice.ensures.value ∙ c.line_of-line.ensures in
     rw (← line) (whole_or_part c.write_all.result
     (Takes (g.E.Sink.taken c.args.report.now) c.as_slice.result.now (g.E.Sink.taken c.write_all.new.sink))
     (Rose (g.E.Sink.faults c.args.report.now) (g.E.Sink.faults c.write_all.new.sink))

@@ -1,7 +1,7 @@
-use Rattle.std.proofs.Common.{map, string_bytes, Global, refl}
+use Rattle.std.proofs.Common.{refl}
 use Rattle.modem_ports.specs.Counts.{Rose}
-use Rattle.modem_ports.specs.Told.{Takes}
-use Rattle.modem_cli.proofs.Refused.{refused_answers, refused_refuses, bad_words, nothing_said, refuses_not}
+use Rattle.modem_cli.specs.Grammar.{texts_of}
+use Rattle.modem_cli.proofs.Refused.{refused_answers, refused_follows, refused_refuses, answered_refuses, bad_words, refuses_words, nothing_said}
 use Rattle.modem_cli.proofs.program.run.Goals as goal
 
 pub returns-in-Ok-clause-bad_words : goal.returns-in-Ok-clause-bad_words
@@ -9,32 +9,37 @@ returns-in-Ok-clause-bad_words g c = (λ is. cc, λ refused. let never = c.in-Ok
 
 pub returns-in-Ok-clause-refuses : goal.returns-in-Ok-clause-refuses
 returns-in-Ok-clause-refuses g c = λ unread.
-    refuses_not (map (string_bytes {Z = Global}) c.args.words.now.items) (g.S.Source.left c.args.source.now) _
-    (λ outcome bytes. Takes (g.K.Sink.taken c.args.out.now) bytes (g.K.Sink.taken c.execute.new.out)) c.in-Ok.ensures.ok
+    answered_refuses (texts_of c.args.words.now) (g.S.Source.left c.args.source.now) (g.K.Sink.taken c.args.out.now) (g.K.Sink.taken c.execute.new.out) _ c.in-Ok.ensures.ok
 
 pub returns-in-Err-clause-reported : goal.returns-in-Err-clause-reported
 returns-in-Err-clause-reported g c = λ failed. record {
   refusal = c.in-Err.refusal;
   has_status = cc;
-  is_outcome = λ decided. c.in-Err.ensures.outcome (rw c.refuse.ensures.status at decided);
+  of_words = λ is. refuses_words (texts_of c.args.words.now) c.in-Err.refusal (λ words. c.in-Err.ensures.words.0 (rw words refl)) (rw c.refuse.ensures.status at is);
+  of_input = λ decided. c.in-Err.ensures.outcome (rw c.refuse.ensures.status at decided);
   is_taken = c.refuse.ensures.reported;
 }
 
 pub returns-in-Err-clause-bad_words : goal.returns-in-Err-clause-bad_words
 returns-in-Err-clause-bad_words g c =
-    rw c.refuse.ensures.status (bad_words (map (string_bytes {Z = Global}) c.args.words.now.items) c.in-Err.refusal
+    rw c.refuse.ensures.status (bad_words (texts_of c.args.words.now) c.in-Err.refusal
     (λ is. c.in-Err.ensures.words.0 (rw is refl)) (λ none. let is = c.in-Err.ensures.words.1 none in cc))
 
 pub returns-in-Err-clause-answers : goal.returns-in-Err-clause-answers
 returns-in-Err-clause-answers g c = λ unread unwritten.
-    rw c.refuse.ensures.status (refused_answers (map (string_bytes {Z = Global}) c.args.words.now.items) (g.S.Source.left c.args.source.now) c.in-Err.refusal
+    rw c.refuse.ensures.status (refused_answers (texts_of c.args.words.now) (g.S.Source.left c.args.source.now) c.in-Err.refusal
     (Rose (g.S.Source.faults c.args.source.now) (g.S.Source.faults c.execute.new.source))
     (Rose (g.K.Sink.faults c.args.out.now) (g.K.Sink.faults c.execute.new.out))
     c.in-Err.ensures.outcome (λ is. c.in-Err.ensures.read_fault (rw is refl)) (λ is. c.in-Err.ensures.write_fault (rw is refl)) unread unwritten)
 
 pub returns-in-Err-clause-refuses : goal.returns-in-Err-clause-refuses
 returns-in-Err-clause-refuses g c = λ unread.
-    rw c.refuse.ensures.status (refused_refuses (map (string_bytes {Z = Global}) c.args.words.now.items) (g.S.Source.left c.args.source.now) c.in-Err.refusal
+    rw c.refuse.ensures.status (refused_refuses (texts_of c.args.words.now) (g.S.Source.left c.args.source.now) c.in-Err.refusal
     (Rose (g.S.Source.faults c.args.source.now) (g.S.Source.faults c.execute.new.source))
     (g.K.Sink.taken c.args.out.now) (g.K.Sink.taken c.execute.new.out)
     c.in-Err.ensures.outcome (λ is. c.in-Err.ensures.read_fault (rw is refl)) (λ is. c.in-Err.ensures.in_part (rw is refl)) unread)
+
+pub returns-in-Err-clause-follows : goal.returns-in-Err-clause-follows
+returns-in-Err-clause-follows g c =
+    rw c.refuse.ensures.status (refused_follows (texts_of c.args.words.now) (g.S.Source.left c.args.source.now) c.in-Err.refusal
+    (g.K.Sink.taken c.args.out.now) (g.K.Sink.taken c.execute.new.out) c.in-Err.ensures.outcome (λ is. c.in-Err.ensures.in_part (rw is refl)))

@@ -1,4 +1,4 @@
-use Rattle.std.proofs.Common.{◌≡◌, ◌<◌, ◌^◌, ℕ, arith}
+use Rattle.std.proofs.Common.{◌≡◌, ◌<◌, arith}
 use Rattle.std.proofs.lemmas.Fmt.{decimal_injective}
 use Rattle.modem_cli.specs.Grammar.{NumbersNoSeed}
 use Rattle.modem_cli.proofs.Absent.{IfNone-from, fails_at_none, value_at_some}

@@ -1,4 +1,4 @@
-use Rattle.std.proofs.Common.{◌≡◌, List, [], ◌∷◌, ℕ, map, string_bytes, codes, sym, ◌∙◌, Global}
+use Rattle.std.proofs.Common.{◌≡◌, [], ◌∷◌, map, string_bytes, codes, sym, ◌∙◌, Global}
 use Rattle.std.proofs.lemmas.Slice.Eq.{bytes_eq-Decides}
 use Rattle.modem_cli.proofs.Items.{three_items, four_items}
 use Rattle.modem_cli.proofs.words.read_words.Goals as goal
