@@ -21,7 +21,7 @@ pub fn bits_of(alloc: Global, bytes: &[u8]) -> Result<Vec<u8>, AllocError>
     Ok(bits)
 }
 
-/// The text of bits: the character `0` or `1` for each bit, and then a newline (own).
+/// The text of bits, each 0 or 1: the character `0` or `1` for each bit, and then a newline (own).
 /// The only error is want of memory.
 pub fn put_text(alloc: Global, bits: &[u8]) -> Result<Vec<u8>, AllocError>
     requires { AreBits bits.now }

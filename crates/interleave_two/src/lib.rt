@@ -32,7 +32,7 @@ pub fn unplace(rate: Rate, j: usize) -> usize
     first_source(rate, second_source(rate, j))
 }
 
-/// A symbol's bits, each at the place to which it goes. The entries behind them play no part.
+/// A symbol's bits, each at the place to which it goes. Every entry is 0 or 1; those behind the bits play no part.
 pub fn interleave(rate: Rate, bits: &[u8; 288]) -> [u8; 288]
     requires { AreBits bits.now }
     ensures by_place { (k : ℕ) → k < (row_of rate).coded_bits → slice_index result (place_of rate k) ≡ slice_index bits.now k }
@@ -50,7 +50,8 @@ pub fn interleave(rate: Rate, bits: &[u8; 288]) -> [u8; 288]
     places
 }
 
-/// A symbol's interleaved bits, brought back into the order of the code. The entries behind them play no part.
+/// A symbol's interleaved bits, brought back into the order of the code. Every entry is 0 or 1; those behind the bits
+/// play no part.
 pub fn deinterleave(rate: Rate, bits: &[u8; 288]) -> [u8; 288]
     requires { AreBits bits.now }
     ensures by_place { (k : ℕ) → k < (row_of rate).coded_bits → slice_index result k ≡ slice_index bits.now (place_of rate k) }

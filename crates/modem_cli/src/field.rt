@@ -51,10 +51,10 @@ fn unscrambled_field(alloc: Global, rate: Rate, psdu: &[u8]) -> Result<Vec<u8>, 
     ensures long { IfOk result (λ field. 22 + 8 * length psdu.now ≤ vec_len field) }
     ensures short { IfOk result (λ field. vec_len field ≤ 33000) }
 {
-    let octets = bits_of(alloc, psdu)?;
+    let bits = bits_of(alloc, psdu)?;
     let symbols = rate.symbols(psdu.len() as u16) as usize;
     let mut field = vec![in alloc; 0; SERVICE_BITS]?;
-    field.extend_from_slice(&octets)?;
+    field.extend_from_slice(&bits)?;
     field.resize(symbols * rate.field_bits(), 0)?;
     Ok(field)
 }
@@ -99,7 +99,8 @@ pub fn kept_code(alloc: Global, rate: Rate, seed: Seed, psdu: &[u8]) -> Result<V
     requires most { length psdu.now ≤ 4095 }
     ensures kept { IfOk result (λ kept. kept.items ≡ kept_at rate seed psdu.now) }
     ensures bits { IfOk result (λ kept. AreBits kept.items) }
-    ensures len { IfOk result (λ kept. vec_len kept ≡ symbol_count (row_of rate).field_bits (length psdu.now) * (row_of rate).coded_bits) }
+    ensures len { IfOk result (λ kept.
+        vec_len kept ≡ symbol_count (row_of rate).field_bits (length psdu.now) * (row_of rate).coded_bits) }
 {
     let code = frame_code(alloc, rate, seed, psdu)?;
     puncture(alloc, rate.code_rate(), &code)

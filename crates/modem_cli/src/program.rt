@@ -21,9 +21,13 @@ use std::alloc::Global;
 /// The most octets of a PSDU.
 const MOST_OCTETS: usize = 4095;
 
-/// One run: the words are those of the command line without the program's name, `source` is read where the command
-/// reads its input, `out` takes the command's bytes and `report` the line of a refusal. It has no condition, and `out`
-/// is written only once all memory was taken.
+/// One run (own): the words are those of the command line without the program's name, `source` is read where the
+/// command reads its input, `out` takes the command's bytes and `report` the line of a refusal. `steps` counts the
+/// steps of receiving, and no command that there is takes any. It has no condition.
+///
+/// The words are judged first, and the source isn't touched where they are refused (`BadWords`). Then the input is read:
+/// `ReadFault` at a read that fails, `BadInput` at the byte that passes the limit or for an empty PSDU. `out` is written
+/// only once all memory was taken, so `NoMemory` leaves it untouched; `WriteFault` leaves a prefix.
 pub fn run<S: Source, K: Sink, E: Sink>(
     alloc: Global,
     words: &Vec<String>,
@@ -65,11 +69,11 @@ pub fn run<S: Source, K: Sink, E: Sink>(
         → HasOutcome (texts_of words.now) bytes outcome → MayFollow outcome result) }
     ensures answers { ¬ Rose (S.faults source.old) (S.faults source.new)
         → ¬ Rose (K.faults out.old) (K.faults out.new)
-        → IfSome (S.left source.old) (λ bytes. (answer : List ℕ) → HasOutcome (texts_of words.now) bytes (Writes answer)
-        → (result ≡ Status.Ok) ⊎ (result ≡ Status.NoMemory)) }
+        → IfSome (S.left source.old) (λ bytes. (answer : List ℕ)
+        → HasOutcome (texts_of words.now) bytes (Writes answer) → (result ≡ Status.Ok) ⊎ (result ≡ Status.NoMemory)) }
     ensures refuses { ¬ Rose (S.faults source.old) (S.faults source.new)
-        → IfSome (S.left source.old) (λ bytes. (refusal : Refusal) → HasOutcome (texts_of words.now) bytes (Refuses refusal)
-        → (result ≡ status_of refusal) ⊎ (result ≡ Status.NoMemory)) }
+        → IfSome (S.left source.old) (λ bytes. (refusal : Refusal)
+        → HasOutcome (texts_of words.now) bytes (Refuses refusal) → (result ≡ status_of refusal) ⊎ (result ≡ Status.NoMemory)) }
 
     // The counts of faults never fall.
     ensures source_counted { S.faults source.old ≤ S.faults source.new }
@@ -143,7 +147,8 @@ fn answer_of<S: Source>(alloc: Global, command: Command, source: &mut S) -> Resu
     ensures end { IfOk result (λ _. IsAtEnd (S.left source.new)) }
     ensures read_at_most { GivesAtMost (most_taken command) (S.left source.old) (S.left source.new) }
     ensures outcome { IfErr result (λ refusal. IsDecided (status_of refusal)
-        → IfSome (S.left source.old) (λ bytes. (words : List (List ℕ)) → CommandOutcome command words bytes (Refuses refusal))) }
+        → IfSome (S.left source.old) (λ bytes.
+        (words : List (List ℕ)) → CommandOutcome command words bytes (Refuses refusal))) }
     ensures kind { IfErr result (λ refusal. (refusal ≢ Refusal.Words) × (refusal ≢ Refusal.WriteFault)) }
     ensures read_fault { IsErrOf result Refusal.ReadFault → Rose (S.faults source.old) (S.faults source.new) }
     ensures read_to_limit { IsErrOf result Refusal.LongPsdu
@@ -166,11 +171,13 @@ fn psdu_text<S: Source>(
     seed: Seed,
     source: &mut S,
 ) -> Result<Vec<u8>, Refusal>
-    ensures ok { IfOk result (λ text. IfSome (S.left source.old) (λ bytes. Writes text.items ≡ psdu_outcome (stage_text_of stage rate seed) bytes)) }
+    ensures ok { IfOk result (λ text. IfSome (S.left source.old) (λ bytes.
+        Writes text.items ≡ psdu_outcome (stage_text_of stage rate seed) bytes)) }
     ensures end { IfOk result (λ _. IsAtEnd (S.left source.new)) }
     ensures read_at_most { GivesAtMost (most_octets + 1) (S.left source.old) (S.left source.new) }
     ensures outcome { IfErr result (λ refusal. IsDecided (status_of refusal)
-        → IfSome (S.left source.old) (λ bytes. Refuses refusal ≡ psdu_outcome (stage_text_of stage rate seed) bytes)) }
+        → IfSome (S.left source.old) (λ bytes.
+        Refuses refusal ≡ psdu_outcome (stage_text_of stage rate seed) bytes)) }
     ensures kind { IfErr result (λ refusal. (refusal ≢ Refusal.Words) × (refusal ≢ Refusal.WriteFault)) }
     ensures read_fault { IsErrOf result Refusal.ReadFault → Rose (S.faults source.old) (S.faults source.new) }
     ensures read_to_limit { IsErrOf result Refusal.LongPsdu
@@ -191,7 +198,8 @@ fn read_psdu<S: Source>(alloc: Global, source: &mut S) -> Result<Vec<u8>, Refusa
     ensures end { IfOk result (λ _. IsAtEnd (S.left source.new)) }
     ensures read_at_most { GivesAtMost (most_octets + 1) (S.left source.old) (S.left source.new) }
     ensures outcome { IfErr result (λ refusal. IsDecided (status_of refusal)
-        → IfSome (S.left source.old) (λ bytes. (answer : List ℕ → List ℕ) → Refuses refusal ≡ psdu_outcome answer bytes)) }
+        → IfSome (S.left source.old) (λ bytes.
+        (answer : List ℕ → List ℕ) → Refuses refusal ≡ psdu_outcome answer bytes)) }
     ensures kind { IfErr result (λ refusal. (refusal ≢ Refusal.Words) × (refusal ≢ Refusal.WriteFault)) }
     ensures read_fault { IsErrOf result Refusal.ReadFault → Rose (S.faults source.old) (S.faults source.new) }
     ensures read_to_limit { IsErrOf result Refusal.LongPsdu

@@ -21,14 +21,15 @@ pub enum Status {
     CutFrame,
     /// The source failed.
     ReadFault,
-    /// The sink failed.
+    /// A write of the answer failed.
     WriteFault,
     /// Want of memory.
     NoMemory,
 }
 
 impl Status {
-    /// The code with which the program ends: 0, or 2 to 8 in the order of the refusing statuses. Takes no memory.
+    /// The code with which the program ends: 0, or 2 to 8 in the order of the
+    /// refusing statuses (own). Takes no memory.
     pub fn code(self) -> u8
         ensures { result ≡ code_of_status self }
     {
@@ -123,7 +124,7 @@ impl Line {
     }
 }
 
-/// The report line of a refusal, with its newline. Takes no memory.
+/// The report line of a refusal, with its newline (own). Takes no memory.
 pub fn line_of(refusal: &Refusal) -> Line
     ensures { result ≡ report_line refusal.now }
 {

@@ -37,7 +37,9 @@ pub enum Command {
     },
 }
 
-/// The command that the words say, without the program's name: `None` exactly where they say none. Takes no memory.
+/// The command that the words say, without the program's name (own): `None` exactly where they say none. RATE is a
+/// number of megabits a second, 6 to 54 by the table of the rates, and SEED is from 1 to 127, both in decimal digits
+/// with no sign and no leading zero; a stage is `scrambled`, `coded`, `kept` or `interleaved`. Takes no memory.
 pub fn read_words(words: &Vec<String>) -> Option<Command>
     ensures command { IfSome result (Say (texts_of words.now)) }
     ensures none { IfNone result (SayNothing (texts_of words.now)) }

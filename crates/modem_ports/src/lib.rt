@@ -9,7 +9,7 @@ mod tests;
 mod whole;
 
 ghost use Rattle.std.specs.Prelude.{◌≡◌, ℕ, ◌<◌, ◌≤◌, List, length, take, Option, IfOk, OnErr};
-ghost use Rattle.modem_ports.specs.Counts.{Rose};
+ghost use Rattle.modem_ports.specs.Counts.{Rose, count_end};
 ghost use Rattle.modem_ports.specs.Told.{Gives, IsAtEnd, Takes};
 
 pub use memory::{MemSink, MemSource};
@@ -31,7 +31,7 @@ pub trait Source {
     /// How many faults there were. The count stands still at `u64::MAX`.
     ghost faults: { Self → ℕ };
 
-    /// Puts the next bytes into the front of `buf`, and answers how many they are, at most the length of `buf`.
+    /// Puts the next bytes into the front of `buf`, which isn't empty, and answers how many they are, at most the length of `buf`.
     /// `Ok(0)` is the end of input. `Failed` gives no bytes, and comes only where the count of faults rose.
     fn read(&mut self, buf: &mut [u8]) -> Result<usize, Failed>
         requires { 0 < length buf.old }
@@ -40,7 +40,8 @@ pub trait Source {
         ensures end { result ≡ Ok 0 → IsAtEnd (left self.old) }
         ensures failed { OnErr result (Rose (faults self.old) (faults self.new)) }
         ensures kept { OnErr result (left self.new ≡ left self.old) }
-        ensures counted { faults self.old ≤ faults self.new };
+        ensures counted { faults self.old ≤ faults self.new }
+        ensures stands { faults self.old ≡ count_end → faults self.new ≡ count_end };
 }
 
 /// Where bytes go to (own).
@@ -51,7 +52,7 @@ pub trait Sink {
     /// How many faults there were. The count stands still at `u64::MAX`.
     ghost faults: { Self → ℕ };
 
-    /// Takes the first bytes of `piece`, and answers how many they are, at least one.
+    /// Takes the first bytes of `piece`, which isn't empty, and answers how many they are, at least one.
     /// `Failed` takes nothing, and comes only where the count of faults rose.
     fn write(&mut self, piece: &[u8]) -> Result<usize, Failed>
         requires { 0 < length piece.now }
@@ -60,5 +61,6 @@ pub trait Sink {
         ensures took { IfOk result (λ n. Takes (taken self.old) (take n piece.now) (taken self.new)) }
         ensures failed { OnErr result (Rose (faults self.old) (faults self.new)) }
         ensures kept { OnErr result (taken self.new ≡ taken self.old) }
-        ensures counted { faults self.old ≤ faults self.new };
+        ensures counted { faults self.old ≤ faults self.new }
+        ensures stands { faults self.old ≡ count_end → faults self.new ≡ count_end };
 }

@@ -1,6 +1,6 @@
 //! Ports over memory, whose calls fail where that was asked for.
 ghost use Rattle.std.specs.Prelude.{◌≡◌, ◌↔◌, ◌⊎◌, ◌<◌, ◌≤◌, ◌-◌, ◌++◌, [], length, take, drop, min, Contains, IfOk, OnErr, IsErr, IsTrue};
-ghost use Rattle.modem_ports.specs.Counts.{Rose, raised_by};
+ghost use Rattle.modem_ports.specs.Counts.{Rose, count_end, raised_by};
 ghost use Rattle.modem_ports.specs.Told.{Gives, IsAtEnd, Takes};
 
 use crate::{Failed, Sink, Source};
@@ -41,6 +41,7 @@ impl Calls {
     fn fault(&mut self) -> Failed
         ensures faults { self.new ≡ record self.old { faults = raised_by 1 self.old.faults } }
         ensures counted { self.old.faults ≤ self.new.faults }
+        ensures stands { self.old.faults ≡ count_end → self.new.faults ≡ count_end }
     {
         self.faults = self.faults.saturating_add(1);
         Failed
@@ -116,6 +117,7 @@ impl Source for MemSource {
         ensures failed { OnErr result (Rose self.old.faults self.new.faults) }
         ensures kept { OnErr result (Some self.new.left ≡ Some self.old.left) }
         ensures counted { self.old.faults ≤ self.new.faults }
+        ensures stands { self.old.faults ≡ count_end → self.new.faults ≡ count_end }
         ensures fails { IsErr result ↔ Contains self.old.failing (raised_by 1 self.old.calls) }
         ensures count { IfOk result
             (λ n. n ≡ min self.old.most (min (length buf.old) (length self.old.left))) }
@@ -214,6 +216,7 @@ impl Sink for MemSink {
         ensures failed { OnErr result (Rose self.old.faults self.new.faults) }
         ensures kept { OnErr result (Some self.new.taken ≡ Some self.old.taken) }
         ensures counted { self.old.faults ≤ self.new.faults }
+        ensures stands { self.old.faults ≡ count_end → self.new.faults ≡ count_end }
         ensures fails { IsErr result
             ↔ (Contains self.old.failing (raised_by 1 self.old.calls) ⊎ (self.old.room ≤ length self.old.taken)) }
         ensures count { IfOk result

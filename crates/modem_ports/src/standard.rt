@@ -1,6 +1,6 @@
 //! Ports over std's readers and writers.
 ghost use Rattle.std.specs.Prelude.{◌≡◌, ◌<◌, ◌≤◌, None, length, take, IfOk, OnOk, OnErr};
-ghost use Rattle.modem_ports.specs.Counts.{Rose, raised_by};
+ghost use Rattle.modem_ports.specs.Counts.{Rose, count_end, raised_by};
 ghost use Rattle.modem_ports.specs.Told.{Gives, IsAtEnd, Takes};
 
 use crate::{Failed, Sink, Source};
@@ -46,6 +46,7 @@ impl<R: Read> Source for StdSource<R> {
         ensures end { result ≡ Ok 0 → IsAtEnd None }
         ensures failed { OnErr result (Rose self.old self.new) }
         ensures counted { self.old ≤ self.new }
+        ensures stands { self.old ≡ count_end → self.new ≡ count_end }
         ensures raised { OnErr result (self.new ≡ raised_by 1 self.old) }
         ensures unraised { OnOk result (self.new ≡ self.old) }
     {
@@ -98,6 +99,7 @@ impl<W: Write> Sink for StdSink<W> {
         ensures took { IfOk result (λ n. Takes None (take n piece.now) None) }
         ensures failed { OnErr result (Rose self.old self.new) }
         ensures counted { self.old ≤ self.new }
+        ensures stands { self.old ≡ count_end → self.new ≡ count_end }
         ensures raised { OnErr result (self.new ≡ raised_by 1 self.old) }
         ensures unraised { OnOk result (self.new ≡ self.old) }
     {

@@ -93,7 +93,7 @@ pub fn sequence(seed: Seed, out: &mut [u8])
     }
 }
 
-/// Changes bit n to its exclusive or with the seed's z(n), for each of the bits (IEEE Std 802.11-2012, 18.3.5.5).
+/// Changes bit n to its exclusive or with the seed's z(n), for each of the bits, which are 0 or 1 (IEEE Std 802.11-2012, 18.3.5.5).
 /// Takes no memory.
 pub fn scramble_in_place(seed: Seed, bits: &mut [u8])
     requires { AreBits bits.old }

@@ -93,7 +93,7 @@ impl Rate {
         }
     }
 
-    /// Megabits a second (IEEE Std 802.11-2012, 18.3.2.3).
+    /// Megabits a second, 6 to 54 (IEEE Std 802.11-2012, 18.3.2.3).
     pub fn mbps(self) -> u32
         ensures { result ≡ (row_of self).mbps }
     {
@@ -161,14 +161,14 @@ impl Rate {
         }
     }
 
-    /// N_CBPS: the coded bits of a symbol, which has 48 data carriers (IEEE Std 802.11-2012, 18.3.2.3).
+    /// N_CBPS: the coded bits of a symbol, 48 to 288, which has 48 data carriers (IEEE Std 802.11-2012, 18.3.2.3).
     pub fn coded_bits(self) -> usize
         ensures { result ≡ (row_of self).coded_bits }
     {
         48 * self.bits_per_carrier()
     }
 
-    /// N_DBPS: the bits of the DATA field in a symbol (IEEE Std 802.11-2012, 18.3.2.3).
+    /// N_DBPS: the bits of the DATA field in a symbol, 24 to 216 (IEEE Std 802.11-2012, 18.3.2.3).
     pub fn field_bits(self) -> usize
         ensures { result ≡ (row_of self).field_bits }
     {
@@ -180,7 +180,7 @@ impl Rate {
         }
     }
 
-    /// The largest noise, in units of a sample's component, that a frame withstands (own).
+    /// The largest noise, 8 to 64, in units of a sample's component, that a frame withstands (own).
     pub fn noise_bound(self) -> u32
         ensures { result ≡ (row_of self).noise_bound }
     {
@@ -192,7 +192,7 @@ impl Rate {
         }
     }
 
-    /// How many flipped bits, of those kept up to the tail, a decoder repairs (own).
+    /// How many flipped bits, 4 or 2 of those kept up to the tail, a decoder repairs (own).
     pub fn flip_bound(self) -> u32
         ensures { result ≡ (row_of self).flip_bound }
     {
