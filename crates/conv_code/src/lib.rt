@@ -11,8 +11,8 @@ use std::alloc::{AllocError, Global};
 
 pub mod laws;
 
-/// The code of a list of bits, each 0 or 1: for each bit the two parities, A before B, the bits before the first being 0 (IEEE Std
-/// 802.11-2012, 18.3.5.6). The only error is want of memory.
+/// The code of a list of bits, each 0 or 1: for each bit the two parities, A before B, the bits before the first
+/// being 0 (IEEE Std 802.11-2012, 18.3.5.6). The only error is want of memory.
 pub fn encode(alloc: Global, bits: &[u8]) -> Result<Vec<u8>, AllocError>
     requires { AreBits bits.now }
     ensures codes { IfOk result (λ code. Codes code.items bits.now) }

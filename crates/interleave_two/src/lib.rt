@@ -1,5 +1,5 @@
-//! The interleaver of one symbol (IEEE Std 802.11-2012, 18.3.5.7). A symbol's bits stand in the first N_CBPS entries of an
-//! array of 288; the other entries are 0 in answers. No call takes memory.
+//! The interleaver of one symbol (IEEE Std 802.11-2012, 18.3.5.7). A symbol's bits stand in the first N_CBPS
+//! entries of an array of 288; the other entries are 0 in answers. No call takes memory.
 #![tactic(auto)]
 
 ghost use Rattle.std.specs.Prelude.{◌≡◌, ℕ, ◌<◌, ◌≤◌, length, take, slice_index};
@@ -35,7 +35,8 @@ pub fn unplace(rate: Rate, j: usize) -> usize
 /// A symbol's bits, each at the place to which it goes. Every entry is 0 or 1; those behind the bits play no part.
 pub fn interleave(rate: Rate, bits: &[u8; 288]) -> [u8; 288]
     requires { AreBits bits.now }
-    ensures by_place { (k : ℕ) → k < (row_of rate).coded_bits → slice_index result (place_of rate k) ≡ slice_index bits.now k }
+    ensures by_place { (k : ℕ) → k < (row_of rate).coded_bits
+        → slice_index result (place_of rate k) ≡ slice_index bits.now k }
     ensures others { (k : ℕ) → (row_of rate).coded_bits ≤ k → slice_index result k ≡ 0 }
     ensures list { take (row_of rate).coded_bits result ≡ interleaved rate bits.now }
     ensures bits { AreBits result }
@@ -54,7 +55,8 @@ pub fn interleave(rate: Rate, bits: &[u8; 288]) -> [u8; 288]
 /// play no part.
 pub fn deinterleave(rate: Rate, bits: &[u8; 288]) -> [u8; 288]
     requires { AreBits bits.now }
-    ensures by_place { (k : ℕ) → k < (row_of rate).coded_bits → slice_index result k ≡ slice_index bits.now (place_of rate k) }
+    ensures by_place { (k : ℕ) → k < (row_of rate).coded_bits
+        → slice_index result k ≡ slice_index bits.now (place_of rate k) }
     ensures others { (k : ℕ) → (row_of rate).coded_bits ≤ k → slice_index result k ≡ 0 }
     ensures list { take (row_of rate).coded_bits result ≡ deinterleaved rate bits.now }
     ensures bits { AreBits result }

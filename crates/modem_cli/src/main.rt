@@ -15,7 +15,8 @@ use std::env::Env;
 use std::process::ExitCode;
 use std::{env, io};
 
-/// The code where the words of the command line can't be had for another cause than want of memory: that of no status.
+/// The code where the words of the command line can't be had for another cause than want of memory: that of no
+/// status.
 const NO_WORDS: u8 = 9;
 
 fn main(rt: HostRuntime) -> ExitCode {

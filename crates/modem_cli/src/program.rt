@@ -1,5 +1,5 @@
 //! One run of the program, over any ports.
-ghost use Rattle.std.specs.Prelude.{◌≡◌, ◌≢◌, ◌↔◌, ◌+◌, ◌≤◌, ◌⊎◌, ℕ, List, length, map, string_bytes, IfOk, IfErr, IfSome, OnOk, IsErrOf};
+ghost use Rattle.std.specs.Prelude.{◌≡◌, ◌≢◌, ◌↔◌, ◌+◌, ◌≤◌, ◌⊎◌, ℕ, List, length, IfOk, IfErr, IfSome, OnOk, IsErrOf};
 ghost use Rattle.modem_ports.specs.Counts.{Rose};
 ghost use Rattle.modem_ports.specs.Told.{GivesAtMost, GivesExactly, IsAtEnd};
 ghost use Rattle.data_field.specs.Field.{most_octets};
@@ -25,9 +25,9 @@ const MOST_OCTETS: usize = 4095;
 /// command reads its input, `out` takes the command's bytes and `report` the line of a refusal. `steps` counts the
 /// steps of receiving, and no command that there is takes any. It has no condition.
 ///
-/// The words are judged first, and the source isn't touched where they are refused (`BadWords`). Then the input is read:
-/// `ReadFault` at a read that fails, `BadInput` at the byte that passes the limit or for an empty PSDU. `out` is written
-/// only once all memory was taken, so `NoMemory` leaves it untouched; `WriteFault` leaves a prefix.
+/// The words are judged first, and the source isn't touched where they are refused (`BadWords`). Then the input is
+/// read: `ReadFault` at a read that fails, `BadInput` at the byte that passes the limit or for an empty PSDU. `out`
+/// is written only once all memory was taken, so `NoMemory` leaves it untouched; `WriteFault` leaves a prefix.
 pub fn run<S: Source, K: Sink, E: Sink>(
     alloc: Global,
     words: &Vec<String>,
@@ -70,10 +70,12 @@ pub fn run<S: Source, K: Sink, E: Sink>(
     ensures answers { ¬ Rose (S.faults source.old) (S.faults source.new)
         → ¬ Rose (K.faults out.old) (K.faults out.new)
         → IfSome (S.left source.old) (λ bytes. (answer : List ℕ)
-        → HasOutcome (texts_of words.now) bytes (Writes answer) → (result ≡ Status.Ok) ⊎ (result ≡ Status.NoMemory)) }
+        → HasOutcome (texts_of words.now) bytes (Writes answer)
+        → (result ≡ Status.Ok) ⊎ (result ≡ Status.NoMemory)) }
     ensures refuses { ¬ Rose (S.faults source.old) (S.faults source.new)
         → IfSome (S.left source.old) (λ bytes. (refusal : Refusal)
-        → HasOutcome (texts_of words.now) bytes (Refuses refusal) → (result ≡ status_of refusal) ⊎ (result ≡ Status.NoMemory)) }
+        → HasOutcome (texts_of words.now) bytes (Refuses refusal)
+        → (result ≡ status_of refusal) ⊎ (result ≡ Status.NoMemory)) }
 
     // The counts of faults never fall.
     ensures source_counted { S.faults source.old ≤ S.faults source.new }
@@ -105,7 +107,8 @@ fn execute<S: Source, K: Sink>(
     source: &mut S,
     out: &mut K,
 ) -> Result<(), Refusal>
-    ensures ok { OnOk result (TakesAnswer (texts_of words.now) (S.left source.old) (K.taken out.old) (K.taken out.new)) }
+    ensures ok { OnOk result
+        (TakesAnswer (texts_of words.now) (S.left source.old) (K.taken out.old) (K.taken out.new)) }
     ensures read { OnOk result ((command : Command) → Say (texts_of words.now) command
         → ReadsInput command → IsAtEnd (S.left source.new)) }
     ensures read_at_most { (command : Command) → Say (texts_of words.now) command

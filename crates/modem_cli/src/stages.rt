@@ -11,8 +11,8 @@ use ofdm_scrambler::Seed;
 use rate_table::Rate;
 use std::alloc::{AllocError, Global};
 
-/// The text of a stage of the transmitter, for a PSDU of 1 to 4095 octets: the stage's bits as characters `0` and `1`,
-/// and then a newline (own). The only error is want of memory.
+/// The text of a stage of the transmitter, for a PSDU of 1 to 4095 octets: the stage's bits as characters `0` and
+/// `1`, and then a newline (own). The only error is want of memory.
 pub fn stage_text(
     alloc: Global,
     stage: Stage,

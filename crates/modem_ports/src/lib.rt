@@ -31,8 +31,9 @@ pub trait Source {
     /// How many faults there were. The count stands still at `u64::MAX`.
     ghost faults: { Self → ℕ };
 
-    /// Puts the next bytes into the front of `buf`, which isn't empty, and answers how many they are, at most the length of `buf`.
-    /// `Ok(0)` is the end of input. `Failed` gives no bytes, and comes only where the count of faults rose.
+    /// Puts the next bytes into the front of `buf`, which isn't empty, and answers how many they are, at most the
+    /// length of `buf`. `Ok(0)` is the end of input. `Failed` gives no bytes, and comes only where the count of
+    /// faults rose.
     fn read(&mut self, buf: &mut [u8]) -> Result<usize, Failed>
         requires { 0 < length buf.old }
         ensures within { IfOk result (λ n. n ≤ length buf.old) }

@@ -89,7 +89,13 @@ impl MemSource {
     ) -> Result<MemSource, AllocError>
         requires { 1 ≤ most }
         ensures { IfOk result
-            (λ source. source ≡ record { left = bytes.now; most = most; failing = failing.now; calls = 0; faults = 0 }) }
+            (λ source. source ≡ record {
+              left = bytes.now;
+              most = most;
+              failing = failing.now;
+              calls = 0;
+              faults = 0;
+            }) }
     {
         let bytes = bytes.to_vec(alloc)?;
         let calls = Calls::open(alloc, failing)?;
@@ -124,7 +130,10 @@ impl Source for MemSource {
         ensures next { IfOk result
             (λ n. self.new ≡ record self.old { left = drop n self.old.left; calls = raised_by 1 self.old.calls }) }
         ensures fault { OnErr result
-            (self.new ≡ record self.old { calls = raised_by 1 self.old.calls; faults = raised_by 1 self.old.faults }) }
+            (self.new ≡ record self.old {
+              calls = raised_by 1 self.old.calls;
+              faults = raised_by 1 self.old.faults;
+            }) }
     {
         if self.calls.begin() {
             return Err(self.calls.fault());
@@ -140,9 +149,9 @@ impl Source for MemSource {
 /// A sink that keeps and tells what it takes, has room for so many bytes, and whose calls fail where that was asked
 /// for (own).
 ///
-/// Calls of `write` are numbered from 1, up to `u64::MAX`, where the number stands still. A call whose number is among
-/// those that fail, or that finds no room, takes nothing, and the count of faults goes up by one. Any other call takes
-/// as many bytes as the most of one call, the piece and the room allow. It takes no memory.
+/// Calls of `write` are numbered from 1, up to `u64::MAX`, where the number stands still. A call whose number is
+/// among those that fail, or that finds no room, takes nothing, and the count of faults goes up by one. Any other
+/// call takes as many bytes as the most of one call, the piece and the room allow. It takes no memory.
 #[derive(Debug, Drop)]
 pub struct MemSink {
     taken: Vec<u8>,
@@ -181,7 +190,14 @@ impl MemSink {
     ) -> Result<MemSink, AllocError>
         requires { 1 ≤ most }
         ensures { IfOk result
-            (λ sink. sink ≡ record { taken = []; room = room; most = most; failing = failing.now; calls = 0; faults = 0 }) }
+            (λ sink. sink ≡ record {
+              taken = [];
+              room = room;
+              most = most;
+              failing = failing.now;
+              calls = 0;
+              faults = 0;
+            }) }
     {
         let taken = Vec::with_capacity(alloc, room)?;
         let calls = Calls::open(alloc, failing)?;
@@ -222,9 +238,15 @@ impl Sink for MemSink {
         ensures count { IfOk result
             (λ n. n ≡ min self.old.most (min (length piece.now) (self.old.room - length self.old.taken))) }
         ensures next { IfOk result
-            (λ n. self.new ≡ record self.old { taken = self.old.taken ++ take n piece.now; calls = raised_by 1 self.old.calls }) }
+            (λ n. self.new ≡ record self.old {
+              taken = self.old.taken ++ take n piece.now;
+              calls = raised_by 1 self.old.calls;
+            }) }
         ensures fault { OnErr result
-            (self.new ≡ record self.old { calls = raised_by 1 self.old.calls; faults = raised_by 1 self.old.faults }) }
+            (self.new ≡ record self.old {
+              calls = raised_by 1 self.old.calls;
+              faults = raised_by 1 self.old.faults;
+            }) }
     {
         let free = self.room - self.taken.len();
         if self.calls.begin() || free == 0 {

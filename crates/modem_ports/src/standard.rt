@@ -62,8 +62,8 @@ impl<R: Read> Source for StdSource<R> {
 
 /// A sink over a writer of std, which tells nothing of its bytes (own).
 ///
-/// It flushes after each write. A write that takes nothing of its piece is a failure, and so is a flush that fails. Its
-/// count of faults begins at 0 and goes up by one at every failure.
+/// It flushes after each write. A write that takes nothing of its piece is a failure, and so is a flush that fails.
+/// Its count of faults begins at 0 and goes up by one at every failure.
 #[derive(Drop)]
 pub struct StdSink<W: Write> {
     writer: W,

@@ -31,8 +31,8 @@ impl Model for Seed {
 }
 
 impl Seed {
-    /// The seed with a number, from 1 to 127: bit i - 1 of the number is x_i, the bit z(-i) of the sequence (the number
-    /// is own). `None` exactly where the number is 0 or above 127. Takes no memory.
+    /// The seed with a number, from 1 to 127: bit i - 1 of the number is x_i, the bit z(-i) of the sequence (the
+    /// number is own). `None` exactly where the number is 0 or above 127. Takes no memory.
     pub fn new(number: u8) -> Option<Seed>
         ensures good { IsSome result ↔ IsSeed number }
         ensures value { IfSome result (λ seed. seed ≡ number) }
@@ -93,8 +93,8 @@ pub fn sequence(seed: Seed, out: &mut [u8])
     }
 }
 
-/// Changes bit n to its exclusive or with the seed's z(n), for each of the bits, which are 0 or 1 (IEEE Std 802.11-2012, 18.3.5.5).
-/// Takes no memory.
+/// Changes bit n to its exclusive or with the seed's z(n), for each of the bits, which are 0 or 1 (IEEE Std
+/// 802.11-2012, 18.3.5.5). Takes no memory.
 pub fn scramble_in_place(seed: Seed, bits: &mut [u8])
     requires { AreBits bits.old }
     ensures values { bits.new ≡ scrambled seed bits.old }

@@ -1,5 +1,5 @@
-//! Puncturing of the code of rate 1/2 to the rates 2/3 and 3/4 (IEEE Std 802.11-2012, 18.3.5.6). A step of the code has two
-//! places, A and then B. Periods run through the whole field without a restart.
+//! Puncturing of the code of rate 1/2 to the rates 2/3 and 3/4 (IEEE Std 802.11-2012, 18.3.5.6). A step of the code
+//! has two places, A and then B. Periods run through the whole field without a restart.
 #![tactic(auto)]
 
 ghost use Rattle.std.specs.Prelude.{◌≡◌, ℕ, ◌*◌, ◌≤◌, ◌^◌, IfOk, length, vec_len};
@@ -21,7 +21,8 @@ pub fn kept(rate: CodeRate, place: usize) -> bool
     }
 }
 
-/// The number of kept places of the first so many steps, at most 2^20: those below twice that number (own). Takes no memory.
+/// The number of kept places of the first so many steps, at most 2^20: those below twice that number (own). Takes
+/// no memory.
 pub fn kept_before(rate: CodeRate, steps: usize) -> usize
     requires { steps ≤ 2 ^ 20 }
     ensures count { result ≡ kept_count rate steps }
@@ -31,13 +32,15 @@ pub fn kept_before(rate: CodeRate, steps: usize) -> usize
     steps + steps.div_ceil(period(rate))
 }
 
-/// The kept bits of a code of at most 2^20 bits, each 0 or 1, in order (IEEE Std 802.11-2012, 18.3.5.6). The only error is want of memory.
+/// The kept bits of a code of at most 2^20 bits, each 0 or 1, in order (IEEE Std 802.11-2012, 18.3.5.6). The only
+/// error is want of memory.
 pub fn puncture(alloc: Global, rate: CodeRate, code: &[u8]) -> Result<Vec<u8>, AllocError>
     requires short { length code.now ≤ 2 ^ 20 }
     requires bits { AreBits code.now }
     ensures list { IfOk result (λ kept. kept.items ≡ kept_list rate code.now) }
     ensures bits { IfOk result (λ kept. AreBits kept.items) }
-    ensures count { (steps : ℕ) → length code.now ≡ 2 * steps → IfOk result (λ kept. vec_len kept ≡ kept_count rate steps) }
+    ensures count { (steps : ℕ) → length code.now ≡ 2 * steps
+        → IfOk result (λ kept. vec_len kept ≡ kept_count rate steps) }
     ensures whole_symbols { IfOk result (λ kept. LeavesWholeSymbols rate code.now kept.items) }
     ensures symbol_by_symbol { IfOk result (λ kept. LeavesSymbolBySymbol rate code.now kept.items) }
 {

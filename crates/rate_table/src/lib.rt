@@ -37,7 +37,8 @@ pub enum Rate {
 }
 
 impl Rate {
-    /// The rate of so many megabits a second (IEEE Std 802.11-2012, 18.3.2.3); `None` exactly where no rate has that number.
+    /// The rate of so many megabits a second (IEEE Std 802.11-2012, 18.3.2.3); `None` exactly where no rate has
+    /// that number.
     pub fn from_mbps(mbps: u32) -> Option<Rate>
         ensures named { IfSome result (λ rate. (row_of rate).mbps ≡ mbps) }
         ensures no_rate { IfNone result ((rate : Rate) → (row_of rate).mbps ≢ mbps) }
@@ -55,8 +56,8 @@ impl Rate {
         }
     }
 
-    /// The rate of a RATE pattern's number, R1 + 2 R2 + 4 R3 + 8 R4, from 0 to 15 (IEEE Std 802.11-2012, 18.3.4.2; the number
-    /// is own); `None` exactly where no rate has that pattern, which is where R4 is 0.
+    /// The rate of a RATE pattern's number, R1 + 2 R2 + 4 R3 + 8 R4, from 0 to 15 (IEEE Std 802.11-2012, 18.3.4.2;
+    /// the number is own); `None` exactly where no rate has that pattern, which is where R4 is 0.
     pub fn from_pattern(pattern: u8) -> Option<Rate>
         requires { pattern < 16 }
         ensures named { IfSome result (λ rate. (row_of rate).pattern ≡ pattern) }
@@ -109,8 +110,8 @@ impl Rate {
         }
     }
 
-    /// The number of the RATE pattern, R1 + 2 R2 + 4 R3 + 8 R4, from 8 to 15 (IEEE Std 802.11-2012, 18.3.4.2; the number is
-    /// own).
+    /// The number of the RATE pattern, R1 + 2 R2 + 4 R3 + 8 R4, from 8 to 15 (IEEE Std 802.11-2012, 18.3.4.2; the
+    /// number is own).
     pub fn pattern(self) -> u8
         ensures { result ≡ (row_of self).pattern }
     {
@@ -202,13 +203,15 @@ impl Rate {
         }
     }
 
-    /// N_SYM: the number of symbols of the DATA field of so many octets, from 1 to 4095 (IEEE Std 802.11-2012, 18.3.5.4).
+    /// N_SYM: the number of symbols of the DATA field of so many octets, from 1 to 4095 (IEEE Std 802.11-2012,
+    /// 18.3.5.4).
     pub fn symbols(self, length: u16) -> u32
         requires some { 1 ≤ length }
         requires most { length ≤ 4095 }
         ensures ceiling { result ≡ symbol_count (row_of self).field_bits length }
         ensures enough { bits_through_tail length ≤ result * (row_of self).field_bits }
-        ensures none_fewer { (fewer : ℕ) → fewer < result → fewer * (row_of self).field_bits < bits_through_tail length }
+        ensures none_fewer { (fewer : ℕ) → fewer < result
+            → fewer * (row_of self).field_bits < bits_through_tail length }
         ensures at_least { 1 ≤ result }
         ensures at_most { result ≤ 1366 }
     {
