@@ -127,17 +127,23 @@ fn begins_the_longer_answers(rt: HostRuntime) -> Result<(), Fail> {
 
 #[test]
 fn takes_one_octet_too_many_and_no_more(rt: HostRuntime) -> Result<(), Fail> {
-    let octets = vec![in rt.alloc(); 0u8; 5000]?;
-    let mut source = MemSource::open(rt.alloc(), &octets, 1000, &[])?;
     let mut out = MemSink::open(rt.alloc(), ROOM, 1000, &[])?;
-    let ran = run_line(rt.alloc(), "bits 6 93", &mut source, &mut out)?;
-    assert!(rt; ran.0 == Status::BadInput);
-    assert!(rt; ran.1.as_slice() == b"error 3: psdu over 4095 octets\n".as_slice());
-    assert!(rt; out.taken().is_empty());
-    let mut rest = [0; 1000];
-    assert!(rt; source.read(&mut rest) == Ok(904));
+    for (count, left) in [(4096, 0), (5000, 904)] {
+        let octets = vec![in rt.alloc(); 0u8; count]?;
+        let mut source = MemSource::open(rt.alloc(), &octets, 1000, &[])?;
+        let ran = run_line(rt.alloc(), "bits 6 93", &mut source, &mut out)?;
+        assert!(rt; ran.0 == Status::BadInput, "status at {count}");
+        assert!(rt;
+            ran.1.as_slice() == b"error 3: psdu over 4095 octets\n".as_slice(),
+            "report at {count}"
+        );
+        assert!(rt; out.taken().is_empty(), "answer at {count}");
+        let mut rest = [0; 1000];
+        assert!(rt; source.read(&mut rest) == Ok(left), "source at {count}");
+    }
     // One octet fewer than the refused number is answered.
-    let mut source = MemSource::open(rt.alloc(), &octets[..4095], 1, &[])?;
+    let octets = vec![in rt.alloc(); 0u8; 4095]?;
+    let mut source = MemSource::open(rt.alloc(), &octets, 1, &[])?;
     let ran = run_line(rt.alloc(), "bits 54 127", &mut source, &mut out)?;
     assert!(rt; ran.0 == Status::Ok);
     assert_eq!(rt; out.taken().len(), 152 * 288 + 1);
