@@ -1,0 +1,4 @@
+pub mod Pairs
+pub mod Rounding
+pub mod Turns
+pub mod Laws

@@ -1,0 +1,2 @@
+//! Laws of whole numbers.
+#![tactic(auto)]
