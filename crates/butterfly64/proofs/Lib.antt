@@ -1,0 +1,5 @@
+pub mod Sizes
+pub mod TurnSizes
+pub mod StagedSizes
+pub mod Mirrors
+pub mod ByPlace
