@@ -1,7 +1,7 @@
 -- The ring law at work.
-use Rattle.std.proofs.Common.{◌≡◌, ℕ, refl}
-use Rattle.std.specs.Prelude.{ℤ, pos, negsuc, ◌+ℤ◌, ◌-ℤ◌, ◌*ℤ◌, neg_ℤ}
-use Rattle.integer_laws.proofs.Ring.{ring, square, variable, number, ◌⊕◌, ◌⊖◌, ◌⊗◌, negated, ◌≗◌}
+use Rattle.std.proofs.Common.{◌≡◌, refl}
+use Rattle.std.specs.Prelude.{ℤ, pos, ◌+ℤ◌, ◌-ℤ◌, ◌*ℤ◌}
+use Rattle.integer_laws.proofs.Ring.{ring, square, number, ◌⊕◌, ◌⊖◌, ◌⊗◌, ◌≗◌}
 
 -- the product of two sums of two squares is a sum of two squares
 pub two_squares : (a b c d : ℤ) → (a *ℤ c -ℤ b *ℤ d) *ℤ (a *ℤ c -ℤ b *ℤ d) +ℤ (a *ℤ d +ℤ b *ℤ c) *ℤ (a *ℤ d +ℤ b *ℤ c) ≡ (a *ℤ a +ℤ b *ℤ b) *ℤ (c *ℤ c +ℤ d *ℤ d)

@@ -1,8 +1,8 @@
 -- Polynomials over whole numbers, with their sums and products, which compute.
 use Rattle.std.proofs.Common.{◌≡◌, ℕ, zero, suc, Bool, true, false, ◌&&◌, T, ltb, leb, eqb, eqb→eq, refl, sym, ◌∙◌, ap, subst, arith}
-use Rattle.std.specs.Prelude.{ℤ, pos, negsuc, ◌+ℤ◌, ◌-ℤ◌, ◌*ℤ◌, neg_ℤ}
-use Rattle.std.proofs.Math.IntN.{+ℤ_assoc, +ℤ_comm, +ℤ_idl, +ℤ_idr, +ℤ_invr, *ℤ_comm, zero-*ℤ, *ℤ-zero}
-use Rattle.integer_laws.proofs.Products.{*ℤ_assoc, *ℤ-+ℤ, +ℤ-*ℤ, neg_ℤ-*ℤ}
+use Rattle.std.specs.Prelude.{ℤ, pos, negsuc, ◌+ℤ◌, ◌*ℤ◌}
+use Rattle.std.proofs.Math.IntN.{+ℤ_assoc, +ℤ_idl, *ℤ_comm, zero-*ℤ, *ℤ-zero}
+use Rattle.integer_laws.proofs.Products.{*ℤ_assoc, *ℤ-+ℤ, +ℤ-*ℤ}
 use borrow.Author.Differences.{same_in, same_out, sum_is_lem}
 
 -- for `omega`: sums of numbers, where a product is an unknown
