@@ -1,5 +1,6 @@
 -- Division rounded down, as inequalities.
-use Rattle.std.proofs.Common.{◌≡◌, ℕ, ◌+◌, ◌*◌, ◌<◌, ◌≤◌, ap, arith, lt_of_mul-lt-mul_right}
+use Rattle.std.proofs.Common.{◌≡◌, ℕ, ◌+◌, ◌*◌, ◌<◌, ◌≤◌, ap, sym, arith, lt_of_mul-lt-mul_right, div-le_self}
+use Rattle.std.proofs.Math.Nat.{div-div-eq-div-mul}
 use Rattle.std.specs.Prelude.{ℤ, pos, negsuc, ◌+ℤ◌, ◌-ℤ◌, ◌*ℤ◌, ◌≤ℤ◌, ◌<ℤ◌, unsigned_abs}
 use Rattle.std.proofs.lemmas.Int.{ints}
 use borrow.Author.Differences.{up, down, sum_is_lem, product_is, same_in}
@@ -61,3 +62,29 @@ pub rounding_within : (p : ℤ) (half : ℕ) → 0 < half → unsigned_abs (pos 
 rounding_within p half above =
     let above_too : 0 < 2 * half = omega arith in
     omega (arith, ints, lower_parts (p +ℤ pos half) (2 * half) above_too, upper_parts (p +ℤ pos half) (2 * half) above_too)
+
+-- the size of the floor is at most the dividend's
+pub unsigned_abs-floor_div : (z : ℤ) (n : ℕ) → unsigned_abs (floor_div z n) ≤ unsigned_abs z
+unsigned_abs-floor_div (pos a) n = div-le_self a n
+unsigned_abs-floor_div (negsuc a) n = omega (arith, div-le_self a n)
+
+-- the floor of a multiple of the divisor
+pub floor_div-multiple : (q : ℤ) (n : ℕ) → 0 < n → floor_div (q *ℤ pos n) n ≡ q
+floor_div-multiple q n above = sym (floor_div-only (q *ℤ pos n) q n above (omega (arith, ints)) (omega (arith, ints, ap (λ s. s * n) (sum_is_lem q (pos 1)))))
+
+-- two divisions are one by the product
+pub floor_div-floor_div : (z : ℤ) (m n : ℕ) → floor_div (floor_div z m) n ≡ floor_div z (m * n)
+floor_div-floor_div (pos a) m n = ap pos (div-div-eq-div-mul a m n)
+floor_div-floor_div (negsuc a) m n = ap negsuc (div-div-eq-div-mul a m n)
+
+-- what is rounded is at most b in size where the dividend is at most the divisor times b
+pub rounded_within : (p : ℤ) (half b : ℕ) → 0 < half → unsigned_abs p ≤ 2 * half * b → unsigned_abs (floor_div (p +ℤ pos half) (2 * half)) ≤ b
+rounded_within p half b above within =
+    let z = p +ℤ pos half in
+    let f = floor_div z (2 * half) in
+    let above_too : 0 < 2 * half = omega arith in
+    let low = lower_parts z (2 * half) above_too in
+    let high = upper_parts z (2 * half) above_too in
+    let not_above : up f ≤ b + down f = le_of_products (up f) (b + down f) (2 * half) (omega (arith, ints)) in
+    let not_below : down f ≤ b + up f = le_of_products (down f) (b + up f) (2 * half) (omega (arith, ints)) in
+    omega (arith, ints)
