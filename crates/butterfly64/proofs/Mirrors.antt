@@ -1,5 +1,7 @@
 -- The places of mirror order.
-use Rattle.std.proofs.Common.{◌≡◌, ℕ, zero, suc, ◌+◌, ◌-◌, ◌*◌, ◌/◌, ◌%◌, ◌^◌, ◌<◌, ◌≤◌, ap, arith, refl}
+use Rattle.std.proofs.Common.{◌≡◌, ℕ, zero, suc, ◌+◌, ◌-◌, ◌*◌, ◌/◌, ◌%◌, ◌^◌, ◌<◌, ◌≤◌, arith, refl, eqb}
+use Rattle.std.proofs.lemmas.Bool.{eqb-true}
+use Rattle.butterfly64.proofs.ByPlace.{passes_at}
 use Rattle.std.proofs.Math.Nat.{pow-suc}
 use Rattle.butterfly64.specs.MirrorOrder.{mirror_of}
 
@@ -30,3 +32,8 @@ pub mirror_of-below : (k n : ℕ) → mirror_of k n < 2 ^ k
 unfolding mirror_of
 mirror_of-below zero n = omega arith
 mirror_of-below (suc k) n = omega (arith, pow-suc 2 k, one_more (n % 2) (2 ^ k) (mirror_of k (n / 2)) (omega arith) (mirror_of-below k (n / 2)))
+
+-- of 64 places, each is the mirrored place of its mirrored place
+pub mirror_of-undone : (n : ℕ) → n < 64 → mirror_of 6 (mirror_of 6 n) ≡ n
+unfolding mirror_of
+mirror_of-undone n h = eqb-true _ _ (passes_at (λ m. eqb (mirror_of 6 (mirror_of 6 m)) m) 64 refl n h)

@@ -64,10 +64,11 @@ fn up_in_place(x: &mut [Cx], level: usize)
     ensures { (n : ℕ) → n < 2 ^ level → entry x.new n ≡ up_at level (λ m. entry x.old (mirror_of level m)) n }
 {
     if level > 0 {
-        let (evens, odds) = x.split_at_mut(1 << (level - 1));
+        let half = x.len() / 2;
+        let (evens, odds) = x.split_at_mut(half);
         up_in_place(evens, level - 1);
         up_in_place(odds, level - 1);
-        join(evens, odds, 64 >> level);
+        join(evens, odds, 32 / half);
     }
 }
 
@@ -79,8 +80,9 @@ fn down_in_place(x: &mut [Cx], level: usize)
     ensures { (n : ℕ) → n < 2 ^ level → entry x.new (mirror_of level n) ≡ down_at level (entry x.old) n }
 {
     if level > 0 {
-        let (first, last) = x.split_at_mut(1 << (level - 1));
-        part(first, last, 64 >> level);
+        let half = x.len() / 2;
+        let (first, last) = x.split_at_mut(half);
+        part(first, last, 32 / half);
         down_in_place(first, level - 1);
         down_in_place(last, level - 1);
     }
