@@ -1,10 +1,10 @@
 //! Whole-number pairs, the samples of a capture, rounding, and the turns of a circle (own). No call takes memory.
 #![tactic(auto)]
 
-ghost use Rattle.std.specs.Prelude.{◌≡◌, ℕ, ◌*◌, ◌^◌, ◌≤◌, ◌*ℤ◌, unsigned_abs};
+ghost use Rattle.std.specs.Prelude.{◌≡◌, ℕ, ◌*◌, ◌^◌, ◌<◌, ◌≤◌, ◌*ℤ◌, unsigned_abs};
 ghost use Rattle.fixed_complex.specs.Pairs.{IsWithin, conjugate, minus, plus, scaled_product, times};
 ghost use Rattle.fixed_complex.specs.Rounding.{half_up};
-ghost use Rattle.fixed_complex.specs.Turns.{turn_at};
+ghost use Rattle.fixed_complex.specs.Turns.{cosine_at, turn_at};
 
 pub mod laws;
 
@@ -58,6 +58,7 @@ pub fn conj(a: Cx) -> Cx
 }
 
 /// The product of two pairs whose components are at most 2^30 in size (own).
+
 pub fn mul(a: Cx, b: Cx) -> Cx
     requires a { IsWithin (2 ^ 30) a }
     requires b { IsWithin (2 ^ 30) b }
@@ -71,6 +72,7 @@ pub fn mul(a: Cx, b: Cx) -> Cx
 
 /// The product of two pairs over 2^20, each component rounded half up: floor((part + 2^19) / 2^20). The components of
 /// `w` are at most 2^20 in size, those of `z` at most 2^40 (own).
+
 pub fn scaled(w: Cx, z: Cx) -> Cx
     requires w { IsWithin (2 ^ 20) w }
     requires z { IsWithin (2 ^ 40) z }
@@ -94,21 +96,31 @@ fn product(x: i64, y: i64) -> i64
 // A part of a product over 2^20, rounded half up.
 fn over_2_20(part: i64) -> i64
     requires { unsigned_abs part ≤ 2 ^ 61 }
-    ensures { result ≡ half_up 20 part }
+    ensures value { result ≡ half_up 20 part }
+    ensures bound { unsigned_abs result ≤ 2 ^ 42 }
 {
     (part + (1 << 19)) >> 20
 }
 
 /// 2^20 times the turn of m 64ths of a circle against the clock, its cosine and its sine rounded to whole numbers
 /// (own).
+#[tactic(auto, unfolding(crate::specs::Turns::turn_at))]
 pub fn turn(m: usize) -> Cx
     ensures { result ≡ turn_at m }
 {
     let place = m % 64;
     Cx {
-        re: COSINES[place],
-        im: COSINES[(place + 48) % 64],
+        re: cosine(place),
+        im: cosine((place + 48) % 64),
     }
+}
+
+// 2^20 times the cosine of so many 64ths of a circle.
+fn cosine(place: usize) -> i64
+    requires { place < 64 }
+    ensures { result ≡ cosine_at place }
+{
+    COSINES[place]
 }
 
 // The cosines of the 64ths of a circle, times 2^20.
