@@ -69,6 +69,11 @@ product_not_negative (pos m) (pos n) h k = pos-le 0 (m * n) (omega arith)
 product_not_negative (pos m) (negsuc n) h k = absurd (omega (arith, ints))
 product_not_negative (negsuc m) b h k = absurd (omega (arith, ints))
 
+-- products with a number that is not negative keep the order
+pub *ℤ-≤ℤ : (c a b : ℤ) → pos 0 ≤ℤ c → a ≤ℤ b → (c *ℤ a) ≤ℤ (c *ℤ b)
+*ℤ-≤ℤ (pos n) a b above h = pos-*ℤ-≤ℤ n a b h
+*ℤ-≤ℤ (negsuc n) a b above h = absurd (omega (arith, ints))
+
 -- the size of a sum, a difference and a product
 pub unsigned_abs-sum : (x y : ℤ) → unsigned_abs (x +ℤ y) ≤ unsigned_abs x + unsigned_abs y
 unsigned_abs-sum x y = omega (arith, ints)

@@ -86,3 +86,9 @@ holds (suc n) law xs h = λ x. holds n (law (variable n)) (x ∷ xs) h
 -- the ring law: what has the same normal form is equal at all values of the variables
 pub ring : (n : ℕ) (law : Law n) → is_law n law ≡ true → Holds n law []
 ring n law h = holds n law [] h
+
+-- what differs by a multiple of the difference of equal numbers is equal
+pub equal_by_multiple : (a b k p q : ℤ) → p ≡ q → a -ℤ b ≡ k *ℤ (p -ℤ q) → a ≡ b
+equal_by_multiple a b k p q e h =
+    let nothing : k *ℤ (q -ℤ q) ≡ pos 0 = ring 2 (λ k q. k ⊗ (q ⊖ q) ≗ number (pos 0)) refl k q in
+    no_difference a b (h ∙ ap (λ s. k *ℤ (s -ℤ q)) e ∙ nothing)

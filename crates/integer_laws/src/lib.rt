@@ -21,8 +21,8 @@ pub fn squares_of_numbers()
     ensures within { (x : ℤ) (b : ℕ) → ((x *ℤ x) ≤ℤ pos (b * b)) ↔ (unsigned_abs x ≤ b) }
 {}
 
-/// The square of a sum of two products is at most the product of the sums of squares: Cauchy's inequality. So where both
-/// pairs are bounded in size, the sum of the products is at most the product of the bounds (own).
+/// The square of a sum of two products is at most the product of the sums of squares: Cauchy's inequality. So where
+/// both pairs are bounded in size, the sum of the products is at most the product of the bounds (own).
 pub fn cauchy()
     ensures squares { (x y u v : ℤ)
         → ((x *ℤ u +ℤ y *ℤ v) *ℤ (x *ℤ u +ℤ y *ℤ v)) ≤ℤ (sum_of_squares x y *ℤ sum_of_squares u v) }
