@@ -1,5 +1,5 @@
 -- A turn depends on its place modulo 64 alone.
-use Rattle.std.proofs.Common.{◌≡◌, ℕ, ◌+◌, ◌*◌, ◌%◌, ◌<◌, ◌∙◌, ap, sym, arith, zero, suc, refl}
+use Rattle.std.proofs.Common.{◌≡◌, ℕ, ◌+◌, ◌*◌, ◌%◌, ◌∙◌, ap, sym, arith, zero, suc, refl}
 use Rattle.std.proofs.lemmas.Nat.{mul-mod}
 use Rattle.fixed_complex.specs.declared.Cx.{Cx}
 use Rattle.fixed_complex.specs.Turns.{turn_at, cosine_at}

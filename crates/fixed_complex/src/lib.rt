@@ -58,7 +58,6 @@ pub fn conj(a: Cx) -> Cx
 }
 
 /// The product of two pairs whose components are at most 2^30 in size (own).
-
 pub fn mul(a: Cx, b: Cx) -> Cx
     requires a { IsWithin (2 ^ 30) a }
     requires b { IsWithin (2 ^ 30) b }
@@ -72,7 +71,6 @@ pub fn mul(a: Cx, b: Cx) -> Cx
 
 /// The product of two pairs over 2^20, each component rounded half up: floor((part + 2^19) / 2^20). The components of
 /// `w` are at most 2^20 in size, those of `z` at most 2^40 (own).
-
 pub fn scaled(w: Cx, z: Cx) -> Cx
     requires w { IsWithin (2 ^ 20) w }
     requires z { IsWithin (2 ^ 40) z }
@@ -132,3 +130,19 @@ static COSINES: [i64; 64] = [
     -582558, -494295, -401273, -304386, -204567, -102778, 0, 102778, 204567, 304386, 401273,
     494295, 582558, 665210, 741455, 810560, 871859, 924761, 968758, 1003425, 1028428, 1043527,
 ];
+
+#[cfg(test)]
+mod tests {
+    use super::*;
+
+    // Halves are rounded up, also those below 0.
+    #[test]
+    fn rounds_half_up(rt: HostRuntime) {
+        let one = Cx { re: 1, im: 0 };
+        let halves = Cx {
+            re: 524288,
+            im: -524288,
+        };
+        assert_eq!(rt; scaled(one, halves), one);
+    }
+}

@@ -1,4 +1,4 @@
-use Rattle.std.proofs.Common.{refl, slice_index_or, w64, to_z, of_z, pos, arith}
+use Rattle.std.proofs.Common.{refl, slice_index_or, w64, to_z, of_z, pos}
 use Rattle.fixed_complex.specs.declared.TheConstants.{COSINES}
 use Rattle.fixed_complex.specs.Turns.{cosine_at}
 use Rattle.fixed_complex.proofs.ByTable.{passes_below, passes_at, is_same, same_number}

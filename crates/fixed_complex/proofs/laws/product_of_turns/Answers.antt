@@ -1,6 +1,6 @@
-use Rattle.std.proofs.Common.{◌≡◌, ℕ, ◌+◌, ◌%◌, ◌^◌, pos, refl, arith, subst}
+use Rattle.std.proofs.Common.{◌≡◌, ℕ, ◌+◌, ◌%◌, ◌^◌, pos, refl, arith}
 use Rattle.fixed_complex.specs.declared.Cx.{Cx}
-use Rattle.fixed_complex.specs.Pairs.{IsOfSize, IsWithin, minus, multiple, times}
+use Rattle.fixed_complex.specs.Pairs.{minus, multiple, times}
 use Rattle.fixed_complex.specs.Turns.{turn_at}
 use Rattle.fixed_complex.proofs.ByTable.{passes_below, passes_at, within_test, is_within, size_test, is_of_size}
 use Rattle.fixed_complex.proofs.Turning.{same_turn, turn_in_table}

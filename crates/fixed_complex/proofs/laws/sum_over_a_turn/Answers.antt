@@ -1,6 +1,6 @@
-use Rattle.std.proofs.Common.{◌≡◌, ◌<◌, ◌≤◌, ◌+◌, ◌*◌, ◌%◌, ◌-◌, ◌∙◌, ap, sym, refl, arith}
+use Rattle.std.proofs.Common.{◌≡◌, ◌≤◌, ◌+◌, ◌*◌, ◌%◌, ◌-◌, ◌∙◌, ap, sym, refl, arith}
 use Rattle.fixed_complex.specs.Laws.{sum_below}
-use Rattle.fixed_complex.specs.Pairs.{times, zero_pair}
+use Rattle.fixed_complex.specs.Pairs.{zero_pair}
 use Rattle.fixed_complex.specs.Turns.{turn_at}
 use Rattle.fixed_complex.proofs.ByTable.{passes_below, passes_at, same_pairs, are_same}
 use Rattle.fixed_complex.proofs.Turning.{same_sum, turns_of_products}

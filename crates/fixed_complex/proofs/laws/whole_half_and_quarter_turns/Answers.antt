@@ -1,4 +1,4 @@
-use Rattle.std.proofs.Common.{◌≡◌, ◌+◌, ◌%◌, ◌∙◌, ap, sym, pos, refl, arith}
+use Rattle.std.proofs.Common.{◌+◌, ◌%◌, ◌∙◌, ap, sym, pos, refl, arith}
 use Rattle.fixed_complex.specs.Pairs.{minus, times, zero_pair}
 use Rattle.fixed_complex.specs.Turns.{turn_at}
 use Rattle.fixed_complex.proofs.ByTable.{passes_below, passes_at, same_pairs, are_same}
