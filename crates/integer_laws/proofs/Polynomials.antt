@@ -8,7 +8,8 @@ use borrow.Author.Differences.{same_in, same_out, sum_is_lem}
 -- for `omega`: sums of numbers, where a product is an unknown
 ruleset sums = (same_in, same_out, sum_is_lem)
 
--- `constant c` is c, and `node i p q` is p plus the i-th variable times q. In a normal form p has only variables after the i-th, and q none before it
+-- `constant c` is c, and `node i p q` is p plus the i-th variable times q. In a normal form p has only variables after
+-- the i-th, and q none before it
 pub data Poly : Type 0 where
   constant : ℤ → Poly
   node : ℕ → Poly → Poly → Poly

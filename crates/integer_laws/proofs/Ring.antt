@@ -1,4 +1,5 @@
--- The ring law: two expressions in whole numbers are equal at all values of their variables where their normal forms are the same.
+-- The ring law: two expressions in whole numbers are equal at all values of their variables where their normal forms
+-- are the same.
 use Rattle.std.proofs.Common.{◌≡◌, ℕ, zero, suc, Bool, true, List, [], ◌∷◌, get_or, refl, sym, ◌∙◌, ap}
 use Rattle.std.specs.Prelude.{ℤ, pos, negsuc, ◌+ℤ◌, ◌-ℤ◌, ◌*ℤ◌, neg_ℤ}
 use Rattle.std.proofs.Math.IntN.{+ℤ_assoc, +ℤ_idl, +ℤ_idr, +ℤ_invl}

@@ -1,4 +1,4 @@
--- The size of a pair of whole numbers: that (x, y) is of size at most a is written `sum_of_squares x y ≤ℤ pos (a * a)`.
+-- The size of a pair of whole numbers. That (x, y) is of size at most a is written `sum_of_squares x y ≤ℤ pos (a * a)`.
 use Rattle.std.proofs.Common.{◌≡◌, ℕ, ◌+◌, ◌*◌, ◌<◌, ◌≤◌, refl, ap, arith, mul-le-mul, le_trans, mul-pos, le_of_mul-le-mul_right}
 use Rattle.std.specs.Prelude.{ℤ, pos, ◌+ℤ◌, ◌-ℤ◌, ◌*ℤ◌, neg_ℤ, ◌≤ℤ◌, unsigned_abs}
 use Rattle.std.proofs.lemmas.Int.{ints}
