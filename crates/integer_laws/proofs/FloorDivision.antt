@@ -1,6 +1,7 @@
 -- Division rounded down, as inequalities.
-use Rattle.std.proofs.Common.{◌≡◌, ℕ, ◌+◌, ◌*◌, ◌<◌, ◌≤◌, ap, sym, arith, lt_of_mul-lt-mul_right, div-le_self}
+use Rattle.std.proofs.Common.{◌≡◌, ℕ, ◌+◌, ◌*◌, ◌<◌, ◌≤◌, ◌^◌, refl, ap, sym, arith, lt_of_mul-lt-mul_right, div-le_self}
 use Rattle.std.proofs.Math.Nat.{div-div-eq-div-mul}
+use Rattle.std.specs.Int.{int_shr}
 use Rattle.std.specs.Prelude.{ℤ, pos, negsuc, ◌+ℤ◌, ◌-ℤ◌, ◌*ℤ◌, ◌≤ℤ◌, ◌<ℤ◌, unsigned_abs}
 use Rattle.std.proofs.lemmas.Int.{ints}
 use borrow.Author.Differences.{up, down, sum_is_lem, product_is, same_in}
@@ -88,3 +89,7 @@ rounded_within p half b above within =
     let not_above : up f ≤ b + down f = le_of_products (up f) (b + down f) (2 * half) (omega (arith, ints)) in
     let not_below : down f ≤ b + up f = le_of_products (down f) (b + up f) (2 * half) (omega (arith, ints)) in
     omega (arith, ints)
+
+-- a shift right is a floor over a power of 2
+pub int_shr_is : (z : ℤ) (k : ℕ) → int_shr z k ≡ floor_div z (2 ^ k)
+int_shr_is z k = refl

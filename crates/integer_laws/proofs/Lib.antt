@@ -1,6 +1,7 @@
 pub mod Examples
 pub mod FloorDivision
 pub mod Order
+pub mod PairRing
 pub mod Polynomials
 pub mod Products
 pub mod Ring

@@ -1,6 +1,6 @@
 -- The order of whole numbers, with products and squares.
-use Rattle.std.proofs.Common.{◌≡◌, ℕ, zero, suc, ◌+◌, ◌*◌, ◌<◌, ◌≤◌, refl, ap, arith, mul-le-mul, mul-le-mul_left, le_of_mul-le-mul_right}
-use Rattle.std.specs.Prelude.{ℤ, pos, negsuc, ◌+ℤ◌, ◌-ℤ◌, ◌*ℤ◌, neg_ℤ, ◌≤ℤ◌, ◌<ℤ◌, unsigned_abs}
+use Rattle.std.proofs.Common.{◌≡◌, ℕ, ◌+◌, ◌*◌, ◌<◌, ◌≤◌, refl, ap, arith, mul-le-mul, mul-le-mul_left, le_of_mul-le-mul_right}
+use Rattle.std.specs.Prelude.{ℤ, pos, negsuc, ◌+ℤ◌, ◌-ℤ◌, ◌*ℤ◌, ◌≤ℤ◌, unsigned_abs}
 use Rattle.std.proofs.lemmas.Int.{ints, unsigned_abs-mul}
 use borrow.Author.Differences.{up, down}
 use Rattle.integer_laws.proofs.Squares.{square-le, le_of_square-le}
@@ -68,6 +68,11 @@ pub product_not_negative : (a b : ℤ) → pos 0 ≤ℤ a → pos 0 ≤ℤ b →
 product_not_negative (pos m) (pos n) h k = pos-le 0 (m * n) (omega arith)
 product_not_negative (pos m) (negsuc n) h k = absurd (omega (arith, ints))
 product_not_negative (negsuc m) b h k = absurd (omega (arith, ints))
+
+-- products with a number that is not negative keep the order
+pub *ℤ-≤ℤ : (c a b : ℤ) → pos 0 ≤ℤ c → a ≤ℤ b → (c *ℤ a) ≤ℤ (c *ℤ b)
+*ℤ-≤ℤ (pos n) a b above h = pos-*ℤ-≤ℤ n a b h
+*ℤ-≤ℤ (negsuc n) a b above h = absurd (omega (arith, ints))
 
 -- the size of a sum, a difference and a product
 pub unsigned_abs-sum : (x y : ℤ) → unsigned_abs (x +ℤ y) ≤ unsigned_abs x + unsigned_abs y

@@ -8,7 +8,8 @@ use borrow.Author.Differences.{same_in, same_out, sum_is_lem}
 -- for `omega`: sums of numbers, where a product is an unknown
 ruleset sums = (same_in, same_out, sum_is_lem)
 
--- `constant c` is c, and `node i p q` is p plus the i-th variable times q. In a normal form p has only variables after the i-th, and q none before it
+-- `constant c` is c, and `node i p q` is p plus the i-th variable times q. In a normal form p has only variables after
+-- the i-th, and q none before it
 pub data Poly : Type 0 where
   constant : ℤ → Poly
   node : ℕ → Poly → Poly → Poly
@@ -87,8 +88,8 @@ module _ (v : ℕ → ℤ) where
       value-pick (ltb i j) _ _ z
       (λ before. omega (arith, sums, left (node j s t)))
       (λ not_before. value-pick (eqb i j) _ _ z
-          (λ same. added (value_of v p) (value_of v q) (value_of v s) (value_of v t) (v i) (v j) _ _ (left s) (right t) (ap v (eqb→eq i j (subst T (sym same) tt))))
-          (λ after. omega (arith, sums, value-add_node i p q f g left right s)))
+      (λ same. added (value_of v p) (value_of v q) (value_of v s) (value_of v t) (v i) (v j) _ _ (left s) (right t) (ap v (eqb→eq i j (subst T (sym same) tt))))
+      (λ after. omega (arith, sums, value-add_node i p q f g left right s)))
     where
       added : (p q s t x y ps qt : ℤ) → ps ≡ p +ℤ s → qt ≡ q +ℤ t → x ≡ y → ps +ℤ x *ℤ qt ≡ p +ℤ x *ℤ q +ℤ (s +ℤ y *ℤ t)
       added p q s t x y ps qt first second e = rw (first, second, ← e, *ℤ-+ℤ x q t) (omega (arith, sums))

@@ -1,4 +1,5 @@
--- The ring law: two expressions in whole numbers are equal at all values of their variables where their normal forms are the same.
+-- The ring law: two expressions in whole numbers are equal at all values of their variables where their normal forms
+-- are the same.
 use Rattle.std.proofs.Common.{◌≡◌, ℕ, zero, suc, Bool, true, List, [], ◌∷◌, get_or, refl, sym, ◌∙◌, ap}
 use Rattle.std.specs.Prelude.{ℤ, pos, negsuc, ◌+ℤ◌, ◌-ℤ◌, ◌*ℤ◌, neg_ℤ}
 use Rattle.std.proofs.Math.IntN.{+ℤ_assoc, +ℤ_idl, +ℤ_idr, +ℤ_invl}
@@ -86,3 +87,9 @@ holds (suc n) law xs h = λ x. holds n (law (variable n)) (x ∷ xs) h
 -- the ring law: what has the same normal form is equal at all values of the variables
 pub ring : (n : ℕ) (law : Law n) → is_law n law ≡ true → Holds n law []
 ring n law h = holds n law [] h
+
+-- what differs by a multiple of the difference of equal numbers is equal
+pub equal_by_multiple : (a b k p q : ℤ) → p ≡ q → a -ℤ b ≡ k *ℤ (p -ℤ q) → a ≡ b
+equal_by_multiple a b k p q e h =
+    let nothing : k *ℤ (q -ℤ q) ≡ pos 0 = ring 2 (λ k q. k ⊗ (q ⊖ q) ≗ number (pos 0)) refl k q in
+    no_difference a b (h ∙ ap (λ s. k *ℤ (s -ℤ q)) e ∙ nothing)

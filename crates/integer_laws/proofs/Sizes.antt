@@ -1,11 +1,11 @@
--- The size of a pair of whole numbers: that (x, y) is of size at most a is written `sum_of_squares x y ≤ℤ pos (a * a)`.
-use Rattle.std.proofs.Common.{◌≡◌, ℕ, ◌+◌, ◌*◌, ◌<◌, ◌≤◌, refl, ap, sym, ◌∙◌, arith, mul-le-mul, le_trans, mul-pos, le_of_mul-le-mul_right}
-use Rattle.std.specs.Prelude.{ℤ, pos, negsuc, ◌+ℤ◌, ◌-ℤ◌, ◌*ℤ◌, neg_ℤ, ◌≤ℤ◌, unsigned_abs}
-use Rattle.std.proofs.lemmas.Int.{ints, unsigned_abs-mul}
+-- The size of a pair of whole numbers. That (x, y) is of size at most a is written `sum_of_squares x y ≤ℤ pos (a * a)`.
+use Rattle.std.proofs.Common.{◌≡◌, ℕ, ◌+◌, ◌*◌, ◌<◌, ◌≤◌, refl, ap, arith, mul-le-mul, le_trans, mul-pos, le_of_mul-le-mul_right}
+use Rattle.std.specs.Prelude.{ℤ, pos, ◌+ℤ◌, ◌-ℤ◌, ◌*ℤ◌, neg_ℤ, ◌≤ℤ◌, unsigned_abs}
+use Rattle.std.proofs.lemmas.Int.{ints}
 use Rattle.integer_laws.specs.Floor.{floor_div}
 use Rattle.integer_laws.specs.Size.{sum_of_squares}
-use Rattle.integer_laws.proofs.Squares.{square-le, le_of_square-le, products_within, triangle_nat}
-use Rattle.integer_laws.proofs.Order.{pos-le, le_of_pos-le, ≤ℤ_trans, square_is, square_within, unsigned_abs-le, square-le_sum}
+use Rattle.integer_laws.proofs.Squares.{square-le, le_of_square-le, triangle_nat}
+use Rattle.integer_laws.proofs.Order.{pos-le, le_of_pos-le, ≤ℤ_trans, square_is, square_within, square-le_sum}
 use Rattle.integer_laws.proofs.FloorDivision.{rounding_within}
 use Rattle.integer_laws.proofs.Ring.{ring, square, ◌⊕◌, ◌⊖◌, ◌⊗◌, negated, ◌≗◌}
 

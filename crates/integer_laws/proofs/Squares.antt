@@ -1,5 +1,5 @@
 -- Squares of natural numbers.
-use Rattle.std.proofs.Common.{◌≡◌, ℕ, ◌+◌, ◌-◌, ◌*◌, ◌<◌, ◌≤◌, inl, inr, arith, mul-le-mul, le_trans, ap}
+use Rattle.std.proofs.Common.{◌≡◌, ℕ, ◌+◌, ◌-◌, ◌*◌, ◌≤◌, inl, inr, arith, mul-le-mul}
 use Rattle.std.proofs.lemmas.Bool.{cases_lt}
 
 -- squares grow
