@@ -1,0 +1,5 @@
+pub mod Tables
+pub mod Gray
+pub mod Counting
+pub mod Levels
+pub mod Nearness
