@@ -7,6 +7,7 @@ use Rattle.bit_lists.specs.Bits.{AreBits}
 use Rattle.rate_table.specs.declared.Modulation.{Modulation}
 use Rattle.rate_table.specs.declared.Modulation.TheVariants.{Bpsk, Qpsk, Qam16, Qam64}
 use Rattle.fixed_complex.specs.declared.Cx.{Cx}
+use Rattle.constellations.proofs.BitCases.{one_bit, two_bits, three_bits}
 use Rattle.constellations.specs.Decisions.{decided, thresholds_below}
 use Rattle.constellations.specs.Axes.{axis_width, gray_bit, level_bits, place_of}
 
@@ -30,57 +31,17 @@ computed_bit-gray place (suc zero) h _ = eqb-true _ _ (and_parts _ _ (and_parts 
 computed_bit-gray place (suc (suc zero)) h _ = eqb-true _ _ (and_parts _ _ (and_parts _ _ (agree_below_at agrees_at (λ _. true) 8 place agrees h)).1).1
 computed_bit-gray place (suc (suc (suc bit))) h k = absurd (omega arith)
 
--- what holds at 0 and at 1 holds of each bit
-at_bit : (P : ℕ → Type 0) → P 0 → P 1 → (b : ℕ) → b < 2 → P b
-at_bit P at_0 at_1 zero h = at_0
-at_bit P at_0 at_1 (suc zero) h = at_1
-at_bit P at_0 at_1 (suc (suc b)) h = absurd (omega arith)
-
 -- the bits of a level are the Gray code of its place
 abbrev pub Decodes : Modulation → List ℕ → Type 0
 Decodes modulation bits = (fold gray_step 0 bits ≡ place_of modulation bits) × (place_of modulation bits < length (level_bits modulation))
 
--- so on an axis of one bit, of two, and of three
-decodes_1 : (modulation : Modulation) → Decodes modulation (0 ∷ []) → Decodes modulation (1 ∷ []) → axis_width modulation ≡ 1 → (bits : List ℕ) → AreBits bits → length bits ≡ axis_width modulation → Decodes modulation bits
-decodes_1 modulation d0 d1 w [] h e = absurd (omega arith)
-decodes_1 modulation d0 d1 w (a ∷ []) h e = at_bit (λ x. Decodes modulation (x ∷ [])) d0 d1 a (h 0 0 (omega arith))
-decodes_1 modulation d0 d1 w (a ∷ b ∷ r) h e = absurd (omega arith)
-
-decodes_16 : (bits : List ℕ) → AreBits bits → length bits ≡ 2 → Decodes Qam16 bits
-unfolding place_of
-decodes_16 [] h e = absurd (omega arith)
-decodes_16 (a ∷ []) h e = absurd (omega arith)
-decodes_16 (a ∷ b ∷ []) h e =
-    at_bit (λ x. Decodes Qam16 (x ∷ b ∷ []))
-    (at_bit (λ y. Decodes Qam16 (0 ∷ y ∷ [])) (refl, omega arith) (refl, omega arith) b (h 1 0 (omega arith)))
-    (at_bit (λ y. Decodes Qam16 (1 ∷ y ∷ [])) (refl, omega arith) (refl, omega arith) b (h 1 0 (omega arith)))
-    a (h 0 0 (omega arith))
-decodes_16 (a ∷ b ∷ x ∷ r) h e = absurd (omega arith)
-
-decodes_64 : (bits : List ℕ) → AreBits bits → length bits ≡ 3 → Decodes Qam64 bits
-unfolding place_of
-decodes_64 [] h e = absurd (omega arith)
-decodes_64 (a ∷ []) h e = absurd (omega arith)
-decodes_64 (a ∷ b ∷ []) h e = absurd (omega arith)
-decodes_64 (a ∷ b ∷ d ∷ []) h e =
-    at_bit (λ x. Decodes Qam64 (x ∷ b ∷ d ∷ []))
-    (at_bit (λ y. Decodes Qam64 (0 ∷ y ∷ d ∷ []))
-      (at_bit (λ z. Decodes Qam64 (0 ∷ 0 ∷ z ∷ [])) (refl, omega arith) (refl, omega arith) d (h 2 0 (omega arith)))
-      (at_bit (λ z. Decodes Qam64 (0 ∷ 1 ∷ z ∷ [])) (refl, omega arith) (refl, omega arith) d (h 2 0 (omega arith)))
-      b (h 1 0 (omega arith)))
-    (at_bit (λ y. Decodes Qam64 (1 ∷ y ∷ d ∷ []))
-      (at_bit (λ z. Decodes Qam64 (1 ∷ 0 ∷ z ∷ [])) (refl, omega arith) (refl, omega arith) d (h 2 0 (omega arith)))
-      (at_bit (λ z. Decodes Qam64 (1 ∷ 1 ∷ z ∷ [])) (refl, omega arith) (refl, omega arith) d (h 2 0 (omega arith)))
-      b (h 1 0 (omega arith)))
-    a (h 0 0 (omega arith))
-decodes_64 (a ∷ b ∷ d ∷ x ∷ r) h e = absurd (omega arith)
-
 pub decodes : (modulation : Modulation) (bits : List ℕ) → AreBits bits → length bits ≡ axis_width modulation → Decodes modulation bits
 unfolding place_of
-decodes Bpsk = decodes_1 Bpsk (refl, omega arith) (refl, omega arith) refl
-decodes Qpsk = decodes_1 Qpsk (refl, omega arith) (refl, omega arith) refl
-decodes Qam16 = decodes_16
-decodes Qam64 = decodes_64
+decodes Bpsk = one_bit (Decodes Bpsk) (refl, omega arith) (refl, omega arith)
+decodes Qpsk = one_bit (Decodes Qpsk) (refl, omega arith) (refl, omega arith)
+decodes Qam16 = two_bits (Decodes Qam16) (refl, omega arith) (refl, omega arith) (refl, omega arith) (refl, omega arith)
+decodes Qam64 =
+    three_bits (Decodes Qam64) (refl, omega arith) (refl, omega arith) (refl, omega arith) (refl, omega arith) (refl, omega arith) (refl, omega arith) (refl, omega arith) (refl, omega arith)
 
 -- the bits of the levels, from the lowest on, are the Gray code of their places
 levels_2 : (p : ℕ) → p ≤ 1 → slice_index_or (level_bits Bpsk) p [] ≡ gray_bit p 0 ∷ []

@@ -2,13 +2,15 @@
 //! (IEEE Std 802.11-2012, 18.3.5.8 and 18.3.5.10). No call takes memory.
 #![tactic(auto)]
 
-ghost use Rattle.std.specs.Prelude.{◌≡◌, ℕ, ◌+◌, ◌-◌, ◌*◌, ◌^◌, ◌<◌, ◌≤◌, IsTrue, length, slice_index, ℤ, pos, negsuc, ◌≤ℤ◌, unsigned_abs};
+ghost use Rattle.std.specs.Prelude.{◌≡◌, ℕ, ◌+◌, ◌-◌, ◌*◌, ◌^◌, ◌<◌, ◌≤◌, IsTrue, length, slice_index, ℤ, pos, neg_ℤ, ◌≤ℤ◌, unsigned_abs};
 ghost use Rattle.bit_lists.specs.Bits.{AreBits};
 ghost use Rattle.fixed_complex.specs.Pairs.{IsWithin};
 ghost use Rattle.constellations.specs.Axes.{amplitude_of, axis_of, axis_width, gray_bit, level_bits, place_of};
 ghost use Rattle.constellations.specs.Carriers.{bin_of, carries_data, data_carrier_of};
 ghost use Rattle.constellations.specs.Decisions.{decided, lies_above, thresholds, thresholds_below};
 ghost use Rattle.constellations.specs.Points.{point_of};
+
+pub mod laws;
 
 use fixed_complex::Cx;
 use rate_table::Modulation;
@@ -92,7 +94,7 @@ pub fn data_carrier(k: usize) -> i32
 
 /// The bin of a carrier from -32 to 31: the carrier modulo 64 (own).
 pub fn bin(carrier: i32) -> usize
-    requires least { negsuc 31 ≤ℤ carrier }
+    requires least { neg_ℤ (pos 32) ≤ℤ carrier }
     requires most { carrier ≤ℤ pos 31 }
     ensures bin { result ≡ bin_of carrier }
     ensures within { result < 64 }
@@ -191,5 +193,37 @@ fn thresholds(modulation: Modulation) -> &'static [i64]
         Modulation::Bpsk | Modulation::Qpsk => &[0],
         Modulation::Qam16 => &[-410, 0, 410],
         Modulation::Qam64 => &[-600, -400, -200, 0, 200, 400, 600],
+    }
+}
+
+#[cfg(test)]
+mod tests {
+    use super::*;
+
+    #[test]
+    fn points_of_given_bits(rt: HostRuntime) {
+        let corner = Cx { re: 700, im: -300 };
+        assert!(rt; point(Modulation::Qam64, &[1, 0, 0, 0, 1, 1]) == corner);
+        let edge = Cx { re: 615, im: -205 };
+        assert!(rt; point(Modulation::Qam16, &[1, 0, 0, 1, 0, 0]) == edge);
+    }
+
+    #[test]
+    fn decisions_at_and_beside_thresholds(rt: HostRuntime) {
+        let at = Cx { re: 410, im: 409 };
+        assert!(rt; decide(Modulation::Qam16, at, 1296) == [1, 0, 1, 1, 0, 0]);
+        let beside = Cx { re: -601, im: 600 };
+        assert!(rt; decide(Modulation::Qam64, beside, 1296) == [0, 0, 0, 1, 0, 0]);
+        let nothing = Cx { re: 0, im: 0 };
+        assert!(rt; decide(Modulation::Bpsk, nothing, 0) == [1, 0, 0, 0, 0, 0]);
+    }
+
+    #[test]
+    fn carriers_beside_the_pilots(rt: HostRuntime) {
+        for (k, carrier) in [(0, -26), (5, -20), (23, -1), (24, 1), (42, 20), (47, 26)] {
+            assert!(rt; data_carrier(k) == carrier);
+        }
+        assert!(rt; bin(-26) == 38);
+        assert!(rt; bin(26) == 26);
     }
 }
