@@ -1,0 +1,2 @@
+//! Kernels.
+#![tactic(auto)]
