@@ -1,5 +1,5 @@
 -- A point whose axes are near gives its bits back.
-use Rattle.std.proofs.Common.{◌≡◌, ◌≢◌, ℕ, ◌*◌, ◌<◌, ◌≤◌, List, ◌++◌, length, take, drop, replicate, ℤ, pos, refl, ap, sym, ◌∙◌, append_assoc, arith, length-drop}
+use Rattle.std.proofs.Common.{◌≡◌, ℕ, ◌*◌, ◌<◌, ◌≤◌, List, ◌++◌, length, drop, replicate, ℤ, pos, refl, ap, append_assoc, arith, length-drop}
 use Rattle.std.proofs.Math.Seq.{take-add}
 use Rattle.std.proofs.lemmas.List.{length-take-le}
 use Rattle.std.proofs.lemmas.List.Elements.{All-take, All-drop}
@@ -22,14 +22,14 @@ widths Qam64 = omega arith
 module _ (modulation : Modulation) (bits : List ℕ) (are : AreBits bits) (six : length bits ≡ 6) (part : ℤ) (m : ℕ) where
   i_back : IsNearAxis modulation (axis_of modulation (bits_of_i modulation bits)) part m → axis_decided modulation part (pos m) ≡ bits_of_i modulation bits
   i_back =
-    gives_back modulation (bits_of_i modulation bits) (All-take IsBit (axis_width modulation) bits are)
-    (length-take-le (axis_width modulation) bits (omega (arith, widths modulation))) part m
+      gives_back modulation (bits_of_i modulation bits) (All-take IsBit (axis_width modulation) bits are)
+      (length-take-le (axis_width modulation) bits (omega (arith, widths modulation))) part m
 
   q_back : IsNearAxis modulation (axis_of modulation (bits_of_q modulation bits)) part m → axis_decided modulation part (pos m) ≡ bits_of_q modulation bits
   q_back =
-    let w = axis_width modulation in
-    gives_back modulation (bits_of_q modulation bits) (All-take IsBit w (drop w bits) (All-drop IsBit w bits are))
-    (length-take-le w (drop w bits) (omega (arith, widths modulation, length-drop w bits))) part m
+      let w = axis_width modulation in
+      gives_back modulation (bits_of_q modulation bits) (All-take IsBit w (drop w bits) (All-drop IsBit w bits are))
+      (length-take-le w (drop w bits) (omega (arith, widths modulation, length-drop w bits))) part m
 
 pub near_gives_back : (modulation : Modulation) (bits : List ℕ) (z : Cx) (m : ℕ) → AreBits bits → length bits ≡ 6 → IsNear modulation (point_of modulation bits) z m → decided modulation z (pos m) ≡ used_bits modulation bits
 unfolding point_of decided

@@ -1,12 +1,8 @@
 -- An axis that is less than half the spacing of the levels away from a level lies above just the thresholds below it.
-use Rattle.std.proofs.Common.{◌≡◌, ◌≢◌, ℕ, ◌+◌, ◌<◌, List, [], ◌∷◌, ◌++◌, length, take, drop, cond, ℤ, pos, negsuc, ◌*ℤ◌, refl, ap, sym, ◌∙◌, arith}
+use Rattle.std.proofs.Common.{◌≡◌, ℕ, ◌+◌, ◌<◌, List, [], ◌∷◌, length, ℤ, pos, negsuc, ◌*ℤ◌, refl, arith}
 use Rattle.std.specs.List.{count_by}
 use Rattle.std.proofs.lemmas.Int.{ints}
-use Rattle.std.proofs.lemmas.List.Sums.{sum_by-append}
-use Rattle.std.proofs.lemmas.List.{length-take-le}
-use Rattle.std.proofs.lemmas.List.Elements.{All-take, All-drop}
-use Rattle.bit_lists.specs.Bits.{AreBits, IsBit}
-use Rattle.fixed_complex.specs.declared.Cx.{Cx}
+use Rattle.bit_lists.specs.Bits.{AreBits}
 use Rattle.rate_table.specs.declared.Modulation.{Modulation}
 use Rattle.rate_table.specs.declared.Modulation.TheVariants.{Bpsk, Qpsk, Qam16, Qam64}
 use Rattle.constellations.specs.Axes.{axis_of, axis_width, place_of}
@@ -59,67 +55,91 @@ all_seven part m = omega arith
 
 qam64_0 : (part : ℤ) (m : ℕ) → IsNearAxis Qam64 (negsuc 699) part m → thresholds_below Qam64 part (pos m) ≡ 0
 qam64_0 part m near =
-    omega (arith, all_seven part m,
+    omega (
+      arith,
+      all_seven part m,
       (let first : of_two part m (negsuc 599) (negsuc 399) ≡ 0 = grind (arith, ints) in first),
       (let second : of_two part m (negsuc 199) (pos 0) ≡ 0 = grind (arith, ints) in second),
       (let third : of_two part m (pos 200) (pos 400) ≡ 0 = grind (arith, ints) in third),
-      (let fourth : count_by (lies_above part (pos m)) (pos 600 ∷ []) ≡ 0 = grind (arith, ints) in fourth))
+      (let fourth : count_by (lies_above part (pos m)) (pos 600 ∷ []) ≡ 0 = grind (arith, ints) in fourth),
+    )
 
 qam64_1 : (part : ℤ) (m : ℕ) → IsNearAxis Qam64 (negsuc 499) part m → thresholds_below Qam64 part (pos m) ≡ 1
 qam64_1 part m near =
-    omega (arith, all_seven part m,
+    omega (
+      arith,
+      all_seven part m,
       (let first : of_two part m (negsuc 599) (negsuc 399) ≡ 1 = grind (arith, ints) in first),
       (let second : of_two part m (negsuc 199) (pos 0) ≡ 0 = grind (arith, ints) in second),
       (let third : of_two part m (pos 200) (pos 400) ≡ 0 = grind (arith, ints) in third),
-      (let fourth : count_by (lies_above part (pos m)) (pos 600 ∷ []) ≡ 0 = grind (arith, ints) in fourth))
+      (let fourth : count_by (lies_above part (pos m)) (pos 600 ∷ []) ≡ 0 = grind (arith, ints) in fourth),
+    )
 
 qam64_2 : (part : ℤ) (m : ℕ) → IsNearAxis Qam64 (negsuc 299) part m → thresholds_below Qam64 part (pos m) ≡ 2
 qam64_2 part m near =
-    omega (arith, all_seven part m,
+    omega (
+      arith,
+      all_seven part m,
       (let first : of_two part m (negsuc 599) (negsuc 399) ≡ 2 = grind (arith, ints) in first),
       (let second : of_two part m (negsuc 199) (pos 0) ≡ 0 = grind (arith, ints) in second),
       (let third : of_two part m (pos 200) (pos 400) ≡ 0 = grind (arith, ints) in third),
-      (let fourth : count_by (lies_above part (pos m)) (pos 600 ∷ []) ≡ 0 = grind (arith, ints) in fourth))
+      (let fourth : count_by (lies_above part (pos m)) (pos 600 ∷ []) ≡ 0 = grind (arith, ints) in fourth),
+    )
 
 qam64_3 : (part : ℤ) (m : ℕ) → IsNearAxis Qam64 (negsuc 99) part m → thresholds_below Qam64 part (pos m) ≡ 3
 qam64_3 part m near =
-    omega (arith, all_seven part m,
+    omega (
+      arith,
+      all_seven part m,
       (let first : of_two part m (negsuc 599) (negsuc 399) ≡ 2 = grind (arith, ints) in first),
       (let second : of_two part m (negsuc 199) (pos 0) ≡ 1 = grind (arith, ints) in second),
       (let third : of_two part m (pos 200) (pos 400) ≡ 0 = grind (arith, ints) in third),
-      (let fourth : count_by (lies_above part (pos m)) (pos 600 ∷ []) ≡ 0 = grind (arith, ints) in fourth))
+      (let fourth : count_by (lies_above part (pos m)) (pos 600 ∷ []) ≡ 0 = grind (arith, ints) in fourth),
+    )
 
 qam64_4 : (part : ℤ) (m : ℕ) → IsNearAxis Qam64 (pos 100) part m → thresholds_below Qam64 part (pos m) ≡ 4
 qam64_4 part m near =
-    omega (arith, all_seven part m,
+    omega (
+      arith,
+      all_seven part m,
       (let first : of_two part m (negsuc 599) (negsuc 399) ≡ 2 = grind (arith, ints) in first),
       (let second : of_two part m (negsuc 199) (pos 0) ≡ 2 = grind (arith, ints) in second),
       (let third : of_two part m (pos 200) (pos 400) ≡ 0 = grind (arith, ints) in third),
-      (let fourth : count_by (lies_above part (pos m)) (pos 600 ∷ []) ≡ 0 = grind (arith, ints) in fourth))
+      (let fourth : count_by (lies_above part (pos m)) (pos 600 ∷ []) ≡ 0 = grind (arith, ints) in fourth),
+    )
 
 qam64_5 : (part : ℤ) (m : ℕ) → IsNearAxis Qam64 (pos 300) part m → thresholds_below Qam64 part (pos m) ≡ 5
 qam64_5 part m near =
-    omega (arith, all_seven part m,
+    omega (
+      arith,
+      all_seven part m,
       (let first : of_two part m (negsuc 599) (negsuc 399) ≡ 2 = grind (arith, ints) in first),
       (let second : of_two part m (negsuc 199) (pos 0) ≡ 2 = grind (arith, ints) in second),
       (let third : of_two part m (pos 200) (pos 400) ≡ 1 = grind (arith, ints) in third),
-      (let fourth : count_by (lies_above part (pos m)) (pos 600 ∷ []) ≡ 0 = grind (arith, ints) in fourth))
+      (let fourth : count_by (lies_above part (pos m)) (pos 600 ∷ []) ≡ 0 = grind (arith, ints) in fourth),
+    )
 
 qam64_6 : (part : ℤ) (m : ℕ) → IsNearAxis Qam64 (pos 500) part m → thresholds_below Qam64 part (pos m) ≡ 6
 qam64_6 part m near =
-    omega (arith, all_seven part m,
+    omega (
+      arith,
+      all_seven part m,
       (let first : of_two part m (negsuc 599) (negsuc 399) ≡ 2 = grind (arith, ints) in first),
       (let second : of_two part m (negsuc 199) (pos 0) ≡ 2 = grind (arith, ints) in second),
       (let third : of_two part m (pos 200) (pos 400) ≡ 2 = grind (arith, ints) in third),
-      (let fourth : count_by (lies_above part (pos m)) (pos 600 ∷ []) ≡ 0 = grind (arith, ints) in fourth))
+      (let fourth : count_by (lies_above part (pos m)) (pos 600 ∷ []) ≡ 0 = grind (arith, ints) in fourth),
+    )
 
 qam64_7 : (part : ℤ) (m : ℕ) → IsNearAxis Qam64 (pos 700) part m → thresholds_below Qam64 part (pos m) ≡ 7
 qam64_7 part m near =
-    omega (arith, all_seven part m,
+    omega (
+      arith,
+      all_seven part m,
       (let first : of_two part m (negsuc 599) (negsuc 399) ≡ 2 = grind (arith, ints) in first),
       (let second : of_two part m (negsuc 199) (pos 0) ≡ 2 = grind (arith, ints) in second),
       (let third : of_two part m (pos 200) (pos 400) ≡ 2 = grind (arith, ints) in third),
-      (let fourth : count_by (lies_above part (pos m)) (pos 600 ∷ []) ≡ 1 = grind (arith, ints) in fourth))
+      (let fourth : count_by (lies_above part (pos m)) (pos 600 ∷ []) ≡ 1 = grind (arith, ints) in fourth),
+    )
 
 pub gives_back : (modulation : Modulation) (bits : List ℕ) → AreBits bits → length bits ≡ axis_width modulation → GivesBack modulation bits
 unfolding axis_of place_of

@@ -1,5 +1,5 @@
 -- Facts that are tried at every place of a table.
-use Rattle.std.proofs.Common.{◌≡◌, ◌⊎◌, inl, inr, ℕ, zero, suc, ◌+◌, ◌-◌, ◌<◌, ◌≤◌, Bool, true, ◌&&◌, ℤ, pos, negsuc, neg_ℤ, ◌-ℤ◌, ◌≤ℤ◌, ◌<ℤ◌, refl, ap, arith}
+use Rattle.std.proofs.Common.{◌≡◌, inl, inr, ℕ, zero, suc, ◌+◌, ◌-◌, ◌<◌, ◌≤◌, Bool, true, ◌&&◌, ℤ, pos, negsuc, neg_ℤ, ◌-ℤ◌, ◌≤ℤ◌, ◌<ℤ◌, refl, ap, arith}
 use Rattle.std.specs.Prelude.{int_le, int_lt}
 use Rattle.std.proofs.lemmas.Bool.{cases_order, agree_below, agree_below_at, and_parts}
 use Rattle.std.proofs.lemmas.Int.{ints}
@@ -97,10 +97,10 @@ carrier-rises j k up below =
 pub carrier-distinct : (j k : ℕ) → j < 48 → k < 48 → data_carrier_of j ≡ data_carrier_of k → j ≡ k
 carrier-distinct j k j_below k_below same =
     elim (cases_order j k) [
-      inl e ↦ e
-    | inr rest ↦ elim rest [
-        inl up ↦ absurd (omega (arith, ints, carrier-rises j k up k_below))
-      | inr down ↦ absurd (omega (arith, ints, carrier-rises k j down j_below))
+      | inl e ↦ e
+      | inr rest ↦ elim rest [
+        | inl up ↦ absurd (omega (arith, ints, carrier-rises j k up k_below))
+        | inr down ↦ absurd (omega (arith, ints, carrier-rises k j down j_below))
       ]
     ]
 

@@ -1,4 +1,3 @@
-use Rattle.std.proofs.Common.{pos, ap, ◌∙◌}
 use Rattle.constellations.specs.Axes.{axis_of}
 use Rattle.constellations.proofs.Levels.{axis_computed}
 use Rattle.constellations.proofs.axis.Goals as goal

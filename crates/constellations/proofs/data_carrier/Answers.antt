@@ -22,7 +22,9 @@ returns-in-30-to-42 c = record { carrier = omega (arith, ints, carrier-in-run 30
 pub returns-in_default : goal.returns-in_default
 returns-in_default c =
     let last = λ (least : 43 ≤ c.args.k). carrier-in-run 43 21 5 c.args.k IsRun-21 least (omega (arith, ints)) in
-    record { carrier = elim c.in_default.branch [
-      in_default-via-then-k-lt0 w ↦ absurd (omega (arith, ints))
-    | in_default-via-else-k-lt0+else-k-lt5+else-k-lt18+else-k-lt24+else-k-lt30+else-k-lt43 w ↦ omega (arith, ints, last (omega (arith, ints)))
-    ] }
+    record {
+      carrier = elim c.in_default.branch [
+        | in_default-via-then-k-lt0 w ↦ absurd (omega (arith, ints))
+        | in_default-via-else-k-lt0+else-k-lt5+else-k-lt18+else-k-lt24+else-k-lt30+else-k-lt43 w ↦ omega (arith, ints, last (omega (arith, ints)))
+      ];
+    }

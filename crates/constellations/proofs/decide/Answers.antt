@@ -1,8 +1,6 @@
-use Rattle.std.proofs.Common.{◌≡◌, ◌<◌, ◌^◌, pos, w64, SFits, arith}
+use Rattle.std.proofs.Common.{w64, SFits, arith}
 use Rattle.std.proofs.lemmas.Int.{to_z-of_z, fits_signed_from_abs}
-use Rattle.constellations.specs.Decisions.{thresholds_below}
 use Rattle.constellations.proofs.Gray.{decided_bpsk, decided_qpsk, decided_16, decided_64}
-use Rattle.rate_table.specs.declared.Modulation.TheVariants.{Bpsk, Qpsk, Qam16, Qam64}
 use Rattle.constellations.proofs.decide.Goals as goal
 
 pub returns-in-Bpsk-clause-decided : goal.returns-in-Bpsk-clause-decided

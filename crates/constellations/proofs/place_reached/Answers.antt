@@ -14,10 +14,10 @@ loop-threshold-preserved c =
     let fits : SFits w64 (get_or xs i (pos 0)) = search rules in
     let answer : p (get_or xs i (pos 0)) ≡ c.lies_above.result = ap p (sym (to_z-of_z w64 _ fits)) ∙ sym c.lies_above.ensures in
     let step : c.if-lies_above.above ≡ c.loop-threshold.above + cond (p (get_or xs i (pos 0))) 1 0 =
-      elim c.if-lies_above.branch [
-        then-lies_above w ↦ let e : p (get_or xs i (pos 0)) ≡ true = answer ∙ w.if-lies_above.true in rw e w.above-is
+    elim c.if-lies_above.branch [
+      | then-lies_above w ↦ let e : p (get_or xs i (pos 0)) ≡ true = answer ∙ w.if-lies_above.true in rw e w.above-is
       | else-lies_above w ↦ let e : p (get_or xs i (pos 0)) ≡ false = answer ∙ w.if-lies_above.false in rw e (omega arith)
-      ] in
+    ] in
     record {
       so_far = count-more p xs i (pos 0) c.loop-threshold.above c.if-lies_above.above (omega arith) c.loop-threshold.invariant.so_far step;
       within = omega arith;
