@@ -6,6 +6,7 @@ ghost use Rattle.bit_lists.specs.Bits.{AreBits};
 ghost use Rattle.fixed_complex.specs.Pairs.{IsWithin};
 ghost use Rattle.constellations.specs.Points.{point_of};
 ghost use Rattle.butterfly64.specs.Bounds.{AreWithin};
+ghost use Rattle.rate_table.specs.declared.Rate.{Rate};
 ghost use Rattle.rate_table.specs.Table.{row_of};
 ghost use Rattle.rate_table.specs.Symbols.{symbol_count};
 ghost use Rattle.symbol_builder.specs.Carriers.{polarity_of};
@@ -40,6 +41,8 @@ pub fn frame_len(rate: Rate, length: u16) -> u32
 pub fn symbol_points(modulation: Modulation, bits: &[u8; 288]) -> [Cx; 48]
     requires { AreBits bits.now }
     ensures points { result ≡ points_of modulation bits.now }
+    ensures of_symbol { (rate : Rate) → (row_of rate).modulation ≡ modulation
+        → result ≡ points_of modulation (take (row_of rate).coded_bits bits.now) }
     ensures within { AreWithin 700 result }
 {
     let width = bits_per_point(modulation);
