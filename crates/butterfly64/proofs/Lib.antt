@@ -6,3 +6,4 @@ pub mod ByPlace
 pub mod Halves
 pub mod InPlace
 pub mod SumSizes
+pub mod LaneOps

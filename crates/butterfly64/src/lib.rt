@@ -8,6 +8,8 @@ ghost use Rattle.butterfly64.specs.StagedSums.{entry, up_at, down_at, up_sums, d
 ghost use Rattle.butterfly64.specs.Bounds.{AreWithin, AreOfSize};
 ghost use Rattle.butterfly64.specs.MirrorOrder.{mirror_of};
 
+mod lanes;
+
 use fixed_complex::{add, conj, scaled, sub, turn, Cx};
 
 /// The staged sums `up` of 64 pairs whose components are at most 2^30 in size: at place n about the sum over c of

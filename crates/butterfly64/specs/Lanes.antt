@@ -1,0 +1,22 @@
+-- Eight pairs in lanes, and lists of them (own).
+use Rattle.std.specs.Prelude.{ℕ, ◌<◌, ◌≤◌, List, [], ◌∷◌, ◌++◌, map, ℤ, pos, slice_index_or, unsigned_abs}
+use Rattle.std.specs.List.{range_with_len}
+use Rattle.fixed_complex.specs.declared.Cx.{Cx}
+use Rattle.butterfly64.specs.declared.lanes.Eight.{Eight}
+
+-- the number in a lane
+abbrev pub number : List ℤ → ℕ → ℤ
+number xs l = slice_index_or xs l (pos 0)
+
+-- the number in each of eight lanes is at most so large in size
+pub record LanesWithin (bound : ℕ) (xs : List ℤ) : Type 0 where
+  pub each : (l : ℕ) → l < 8 → unsigned_abs (number xs l) ≤ bound
+
+-- the pair in a lane
+abbrev pub lane : Eight → ℕ → Cx
+lane x l = record { re = number x.re l; im = number x.im l }
+
+-- the pairs of a list of eights, in order
+unfoldable pub pairs_of : List Eight → List Cx
+pairs_of [] = []
+pairs_of (x ∷ xs) = map (lane x) (range_with_len 0 8) ++ pairs_of xs
