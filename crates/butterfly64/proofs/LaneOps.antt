@@ -11,6 +11,8 @@ use mir.Syntax.{add, sub, mul, shr, signed}
 use lib.Signed.{shr_z}
 use Rattle.integer_laws.specs.Floor.{floor_div}
 use Rattle.integer_laws.proofs.Order.{unsigned_abs-product}
+use Rattle.fixed_complex.specs.declared.Cx.{Cx}
+use Rattle.fixed_complex.specs.Pairs.{times, scaled_product}
 use Rattle.fixed_complex.specs.Rounding.{half_up}
 use Rattle.butterfly64.specs.Lanes.{number, LanesWithin}
 
@@ -112,3 +114,17 @@ rounded_give xs l long w h =
     ∙ ap (to_z w64) (lane_of_two shift whole (replicate 8 20) l whole_long refl h
       ∙ rw (lane_of_two plus_half (map bits xs) (replicate 8 524288) l xs_bits refl h, bits_in xs l long h, get_or-replicate {A = ℕ} 8 l 524288 0 h, get_or-replicate {A = ℕ} 8 l 20 0 h) refl)
     ∙ gives_rounded (number xs l) (w.each l h)
+
+pub half_up-within : (a : ℤ) → unsigned_abs a ≤ 2 ^ 61 → unsigned_abs (half_up 20 a) ≤ 2 ^ 62 - 1
+half_up-within a p =
+    let whole : unsigned_abs (a +ℤ pos 524288) ≤ 2 ^ 61 + 524288 = omega (arith, ints) in
+    omega (arith, floor_within (a +ℤ pos 524288))
+
+pub lanes_wider : (a b : ℕ) (xs : List ℤ) → a ≤ b → LanesWithin a xs → LanesWithin b xs
+lanes_wider a b xs h w = record { each = λ l lt. omega (arith, w.each l lt) }
+
+-- a rounded product of pairs, from its parts
+pub scaled_of_parts : (w z : Cx) (p q r s d e : ℤ) → p ≡ w.re *ℤ z.re → q ≡ w.im *ℤ z.im → r ≡ w.re *ℤ z.im → s ≡ w.im *ℤ z.re → d ≡ half_up 20 (p -ℤ q) → e ≡ half_up 20 (r +ℤ s)
+    → let pair : Cx = record { re = d; im = e } in pair ≡ scaled_product w z
+unfolding scaled_product times
+scaled_of_parts w z p q r s d e p_is q_is r_is s_is d_is e_is = rw (d_is, e_is, p_is, q_is, r_is, s_is)

@@ -2,6 +2,7 @@
 use Rattle.std.specs.Prelude.{ℕ, ◌<◌, ◌≤◌, List, [], ◌∷◌, ◌++◌, map, ℤ, pos, slice_index_or, unsigned_abs}
 use Rattle.std.specs.List.{range_with_len}
 use Rattle.fixed_complex.specs.declared.Cx.{Cx}
+use Rattle.fixed_complex.specs.Pairs.{IsWithin}
 use Rattle.butterfly64.specs.declared.lanes.Eight.{Eight}
 
 -- the number in a lane
@@ -20,3 +21,7 @@ lane x l = record { re = number x.re l; im = number x.im l }
 unfoldable pub pairs_of : List Eight → List Cx
 pairs_of [] = []
 pairs_of (x ∷ xs) = map (lane x) (range_with_len 0 8) ++ pairs_of xs
+
+-- each component of the pair in each of eight lanes is at most so large in size
+pub record EachWithin (bound : ℕ) (x : Eight) : Type 0 where
+  pub each : (l : ℕ) → l < 8 → IsWithin bound (lane x l)

@@ -3,7 +3,7 @@ ghost use Rattle.std.specs.Prelude.{◌≡◌, ℕ, ◌+◌, ◌-◌, ◌*◌, �
 ghost use Rattle.fixed_complex.specs.Pairs.{IsWithin, IsOfSize, conjugate, plus, minus, scaled_product};
 ghost use Rattle.fixed_complex.specs.Rounding.{half_up};
 ghost use Rattle.fixed_complex.specs.Turns.{turn_at};
-ghost use Rattle.butterfly64.specs.Lanes.{lane, number, LanesWithin};
+ghost use Rattle.butterfly64.specs.Lanes.{lane, number, EachWithin, LanesWithin};
 
 use std::simd::prelude::*;
 
@@ -43,7 +43,8 @@ fn differences(x: [i64; 8], y: [i64; 8]) -> [i64; 8]
 fn products(x: [i64; 8], y: [i64; 8]) -> [i64; 8]
     requires x { LanesWithin (2 ^ 20) x }
     requires y { LanesWithin (2 ^ 40) y }
-    ensures { (l : ℕ) → l < 8 → number result l ≡ number x l *ℤ number y l }
+    ensures value { (l : ℕ) → l < 8 → number result l ≡ number x l *ℤ number y l }
+    ensures bound { LanesWithin (2 ^ 60) result }
 {
     i64x8::from_array(x)
         .strict_mul(i64x8::from_array(y))
@@ -54,8 +55,78 @@ fn products(x: [i64; 8], y: [i64; 8]) -> [i64; 8]
 #[inline(always)]
 fn rounded(x: [i64; 8]) -> [i64; 8]
     requires { LanesWithin (2 ^ 61) x }
-    ensures { (l : ℕ) → l < 8 → number result l ≡ half_up 20 (number x l) }
+    ensures value { (l : ℕ) → l < 8 → number result l ≡ half_up 20 (number x l) }
+    ensures bound { LanesWithin (2 ^ 62 - 1) result }
 {
     let halves = i64x8::splat(1 << 19);
     (i64x8::from_array(x).strict_add(halves) >> i64x8::splat(20)).to_array()
+}
+
+// The sums of eight and eight pairs.
+#[inline(always)]
+fn plus_lanes(x: &Eight, y: &Eight) -> Eight
+    requires x { EachWithin (2 ^ 62 - 1) x.now }
+    requires y { EachWithin (2 ^ 62 - 1) y.now }
+    ensures { (l : ℕ) → l < 8 → lane result l ≡ plus (lane x.now l) (lane y.now l) }
+{
+    Eight {
+        re: sums(x.re, y.re),
+        im: sums(x.im, y.im),
+    }
+}
+
+// The differences of eight and eight pairs.
+#[inline(always)]
+fn minus_lanes(x: &Eight, y: &Eight) -> Eight
+    requires x { EachWithin (2 ^ 62 - 1) x.now }
+    requires y { EachWithin (2 ^ 62 - 1) y.now }
+    ensures { (l : ℕ) → l < 8 → lane result l ≡ minus (lane x.now l) (lane y.now l) }
+{
+    Eight {
+        re: differences(x.re, y.re),
+        im: differences(x.im, y.im),
+    }
+}
+
+// The products of eight and eight pairs over 2^20, rounded half up.
+#[inline(always)]
+fn scaled_lanes(w: &Eight, z: &Eight) -> Eight
+    requires w { EachWithin (2 ^ 20) w.now }
+    requires z { EachWithin (2 ^ 40) z.now }
+    ensures value { (l : ℕ) → l < 8 → lane result l ≡ scaled_product (lane w.now l) (lane z.now l) }
+    ensures bound { EachWithin (2 ^ 62 - 1) result }
+{
+    Eight {
+        re: rounded(differences(products(w.re, z.re), products(w.im, z.im))),
+        im: rounded(sums(products(w.re, z.im), products(w.im, z.re))),
+    }
+}
+
+// The sums and the differences of eight pairs and the turns of eight others.
+#[inline(always)]
+fn joined_lanes(even: &Eight, odd: &Eight, turns: &Eight) -> (Eight, Eight)
+    requires even { EachWithin (2 ^ 40) even.now }
+    requires odd { EachWithin (2 ^ 40) odd.now }
+    requires turns { EachWithin (2 ^ 20) turns.now }
+    ensures sums { (l : ℕ) → l < 8 → lane result.0 l
+        ≡ plus (lane even.now l) (scaled_product (lane turns.now l) (lane odd.now l)) }
+    ensures differences { (l : ℕ) → l < 8 → lane result.1 l
+        ≡ minus (lane even.now l) (scaled_product (lane turns.now l) (lane odd.now l)) }
+{
+    let turned = scaled_lanes(turns, odd);
+    (plus_lanes(even, &turned), minus_lanes(even, &turned))
+}
+
+// The sums of eight and eight pairs, and the turns of their differences.
+#[inline(always)]
+fn parted_lanes(first: &Eight, last: &Eight, turns: &Eight) -> (Eight, Eight)
+    requires first { EachWithin (2 ^ 39) first.now }
+    requires last { EachWithin (2 ^ 39) last.now }
+    requires turns { EachWithin (2 ^ 20) turns.now }
+    ensures sums { (l : ℕ) → l < 8 → lane result.0 l ≡ plus (lane first.now l) (lane last.now l) }
+    ensures differences { (l : ℕ) → l < 8 → lane result.1 l
+        ≡ scaled_product (lane turns.now l) (minus (lane first.now l) (lane last.now l)) }
+{
+    let difference = minus_lanes(first, last);
+    (plus_lanes(first, last), scaled_lanes(turns, &difference))
 }
