@@ -7,7 +7,7 @@ abbrev pub passes_below : (ℕ → Bool) → ℕ → Bool
 passes_below p zero = true
 passes_below p (suc n) = p n && passes_below p n
 
-both_of : (x rest : Bool) → (x && rest) ≡ true → (x ≡ true) × (rest ≡ true)
+pub both_of : (x rest : Bool) → (x && rest) ≡ true → (x ≡ true) × (rest ≡ true)
 both_of true rest h = (refl, h)
 both_of false rest h = cc
 

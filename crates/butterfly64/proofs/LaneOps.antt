@@ -1,9 +1,11 @@
 -- Operations on eight lanes: each lane of the result, from those of the operands.
-use Rattle.std.proofs.Common.{◌≡◌, ℕ, zero, suc, ◌+◌, ◌-◌, ◌*◌, ◌/◌, ◌^◌, ◌<◌, ◌≤◌, List, [], ◌∷◌, length, map, refl, ap, sym, ◌∙◌, arith, get_or, replicate, w64, to_z, of_z}
+use Rattle.std.proofs.Common.{length-append, ◌++◌, ◌&&◌, Bool, true, false, cond, eqb, ltb, inl, inr, ◌≡◌, ℕ, zero, suc, ◌+◌, ◌-◌, ◌*◌, ◌/◌, ◌^◌, ◌<◌, ◌≤◌, List, [], ◌∷◌, length, map, refl, ap, sym, ◌∙◌, arith, get_or, replicate, w64, to_z, of_z}
 use Rattle.std.specs.Prelude.{ℤ, pos, negsuc, ◌+ℤ◌, ◌-ℤ◌, ◌*ℤ◌, unsigned_abs, FitsSigned}
 use Rattle.std.specs.Simd.Lanes.{zip2, Each2}
 use Rattle.std.proofs.lemmas.Int.{ints, to_z-of_z, fits_signed_mul, fits_signed_from_abs}
-use Rattle.std.proofs.lemmas.List.{get_or-map, length-map}
+use Rattle.std.proofs.lemmas.List.{get_or-map, length-map, map-append, get_or_append_left, get_or-append_right}
+use Rattle.std.proofs.lemmas.Bool.{cases_lt, eqb-true, ltb-true}
+use Rattle.butterfly64.proofs.ByPlace.{passes_below, passes_at, both_of}
 use Rattle.std.proofs.lemmas.Simd.{get_or-zip2, length-zip2, get_or-replicate}
 use borrow.Rule.Simd.Lanes.{Asks2, act2}
 use borrow.Table.Row.{s_int}
@@ -128,3 +130,45 @@ pub scaled_of_parts : (w z : Cx) (p q r s d e : ℤ) → p ≡ w.re *ℤ z.re �
     → let pair : Cx = record { re = d; im = e } in pair ≡ scaled_product w z
 unfolding scaled_product times
 scaled_of_parts w z p q r s d e p_is q_is r_is s_is d_is e_is = rw (d_is, e_is, p_is, q_is, r_is, s_is)
+
+-- ---- lanes in another order
+-- the lanes at these places of two vectors
+pub picked : (ks : List ℕ) (xs ys : List ℤ) → length ks ≡ 8 → length xs ≡ 8 → length ys ≡ 8 → LanesWithin (2 ^ 62 - 1) xs → LanesWithin (2 ^ 62 - 1) ys
+    → (l k : ℕ) → l < 8 → get_or ks l 0 ≡ k → k < 16
+    → number (map (λ k. to_z w64 (get_or (map bits xs ++ map bits ys) k 0)) ks) l ≡ number (xs ++ ys) k
+picked ks xs ys ks_long xs_long ys_long xs_within ys_within l k h place below =
+    let g = λ (k : ℕ). to_z w64 (get_or (map bits xs ++ map bits ys) k 0) in
+    let long : length (xs ++ ys) ≡ 16 = omega (arith, length-append xs ys) in
+    get_or-map g ks l 0 (pos 0) (omega arith)
+    ∙ ap g place
+    ∙ ap (λ (bs : List ℕ). to_z w64 (get_or bs k 0)) (sym (map-append bits xs ys))
+    ∙ ap (to_z w64) (get_or-map bits (xs ++ ys) k (pos 0) 0 (omega arith))
+    ∙ held (number (xs ++ ys) k) (elim (cases_lt k 8) [
+        inl first ↦ rw (get_or_append_left xs ys (pos 0) k (omega arith)) (omega (arith, xs_within.each k first))
+        | inr last ↦ rw (get_or-append_right xs ys 8 k (pos 0) xs_long last) (omega (arith, ys_within.each (k - 8) (omega arith))) ])
+
+-- those of one
+pub picked_of_one : (ks : List ℕ) (xs : List ℤ) (place : ℕ → ℕ) → length ks ≡ 8 → length xs ≡ 8 → LanesWithin (2 ^ 62 - 1) xs → passes_below (λ l. eqb (get_or ks l 0) (place l) && ltb (place l) 8) 8 ≡ true
+    → (l : ℕ) → l < 8 → number (map (λ k. to_z w64 (get_or (map bits xs ++ map bits xs) k 0)) ks) l ≡ number xs (place l)
+picked_of_one ks xs place ks_long xs_long within test l h =
+    let both = both_of _ _ (passes_at (λ l. eqb (get_or ks l 0) (place l) && ltb (place l) 8) 8 test l h) in
+    let below : place l < 8 = ltb-true (place l) 8 both.1 in
+    picked ks xs xs ks_long xs_long xs_long within within l (place l) h (eqb-true (get_or ks l 0) (place l) both.0) (omega (arith, below))
+    ∙ get_or_append_left xs xs (pos 0) (place l) (omega (arith, below))
+
+-- each lane of the one or of the other
+pub picked_of_two : (ks : List ℕ) (xs ys : List ℤ) (first : ℕ → Bool) → length ks ≡ 8 → length xs ≡ 8 → length ys ≡ 8 → LanesWithin (2 ^ 62 - 1) xs → LanesWithin (2 ^ 62 - 1) ys → passes_below (λ l. eqb (get_or ks l 0) (cond (first l) l (8 + l))) 8 ≡ true
+    → (l : ℕ) → l < 8 → number (map (λ k. to_z w64 (get_or (map bits xs ++ map bits ys) k 0)) ks) l ≡ cond (first l) (number xs l) (number ys l)
+picked_of_two ks xs ys first ks_long xs_long ys_long xs_within ys_within test l h =
+    go (first l) (eqb-true (get_or ks l 0) (cond (first l) l (8 + l)) (passes_at (λ l. eqb (get_or ks l 0) (cond (first l) l (8 + l))) 8 test l h))
+  where
+    go : (b : Bool) → get_or ks l 0 ≡ cond b l (8 + l) → number (map (λ k. to_z w64 (get_or (map bits xs ++ map bits ys) k 0)) ks) l ≡ cond b (number xs l) (number ys l)
+    go true place = picked ks xs ys ks_long xs_long ys_long xs_within ys_within l l h place (omega arith) ∙ get_or_append_left xs ys (pos 0) l (omega arith)
+    go false place =
+        let back : 8 + l - 8 ≡ l = omega arith in
+        picked ks xs ys ks_long xs_long ys_long xs_within ys_within l (8 + l) h place (omega arith) ∙ get_or-append_right xs ys 8 (8 + l) (pos 0) xs_long (omega arith) ∙ ap (number ys) back
+
+-- a pair of two such lanes
+pub pair_by : (b : Bool) (x y : Cx) (re im : ℤ) → re ≡ cond b x.re y.re → im ≡ cond b x.im y.im → let pair : Cx = record { re = re; im = im } in pair ≡ cond b x y
+pair_by true x y re im p q = λ i. record { re = p i; im = q i }
+pair_by false x y re im p q = λ i. record { re = p i; im = q i }

@@ -1,5 +1,5 @@
 -- Eight pairs in lanes, and lists of them (own).
-use Rattle.std.specs.Prelude.{ℕ, ◌<◌, ◌≤◌, List, [], ◌∷◌, ◌++◌, map, ℤ, pos, slice_index_or, unsigned_abs}
+use Rattle.std.specs.Prelude.{ℕ, ◌+◌, ◌*◌, ◌/◌, ◌%◌, ◌^◌, ◌<◌, ◌≤◌, Bool, nat_lt, List, [], ◌∷◌, ◌++◌, map, ℤ, pos, slice_index_or, unsigned_abs}
 use Rattle.std.specs.List.{range_with_len}
 use Rattle.fixed_complex.specs.declared.Cx.{Cx}
 use Rattle.fixed_complex.specs.Pairs.{IsWithin}
@@ -25,3 +25,11 @@ pairs_of (x ∷ xs) = map (lane x) (range_with_len 0 8) ++ pairs_of xs
 -- each component of the pair in each of eight lanes is at most so large in size
 pub record EachWithin (bound : ℕ) (x : Eight) : Type 0 where
   pub each : (l : ℕ) → l < 8 → IsWithin bound (lane x l)
+
+-- the first of the two places that a stage 2^k apart takes lane l from
+abbrev pub low_place : ℕ → ℕ → ℕ
+low_place k l = l / (2 * 2 ^ k) * (2 * 2 ^ k) + l % 2 ^ k
+
+-- lane l stands in the lower half of its block of a stage 2^k apart
+abbrev pub is_low : ℕ → ℕ → Bool
+is_low k l = nat_lt (l % (2 * 2 ^ k)) (2 ^ k)

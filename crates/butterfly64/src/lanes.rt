@@ -1,9 +1,9 @@
 // Eight numbers in lanes, and eight pairs.
-ghost use Rattle.std.specs.Prelude.{◌≡◌, ℕ, ◌+◌, ◌-◌, ◌*◌, ◌/◌, ◌%◌, ◌^◌, ◌<◌, ◌≤◌, length, pos, ◌+ℤ◌, ◌-ℤ◌, ◌*ℤ◌, slice_index_or, unsigned_abs};
+ghost use Rattle.std.specs.Prelude.{◌≡◌, ℕ, ◌+◌, ◌-◌, ◌*◌, ◌/◌, ◌%◌, ◌^◌, ◌<◌, ◌≤◌, length, pos, ◌+ℤ◌, ◌-ℤ◌, ◌*ℤ◌, slice_index_or, unsigned_abs, if◌then◌else◌};
 ghost use Rattle.fixed_complex.specs.Pairs.{IsWithin, IsOfSize, conjugate, plus, minus, scaled_product};
 ghost use Rattle.fixed_complex.specs.Rounding.{half_up};
 ghost use Rattle.fixed_complex.specs.Turns.{turn_at};
-ghost use Rattle.butterfly64.specs.Lanes.{lane, number, EachWithin, LanesWithin};
+ghost use Rattle.butterfly64.specs.Lanes.{is_low, lane, low_place, number, EachWithin, LanesWithin};
 
 use std::simd::prelude::*;
 
@@ -129,4 +129,106 @@ fn parted_lanes(first: &Eight, last: &Eight, turns: &Eight) -> (Eight, Eight)
 {
     let difference = minus_lanes(first, last);
     (plus_lanes(first, last), scaled_lanes(turns, &difference))
+}
+
+// The low and the high pair, in each lane, of two that stand one lane apart.
+#[inline(always)]
+fn one_apart(x: &Eight) -> (Eight, Eight)
+    requires { EachWithin (2 ^ 62 - 1) x.now }
+    ensures low { (l : ℕ) → l < 8 → lane result.0 l ≡ lane x.now (low_place 0 l) }
+    ensures high { (l : ℕ) → l < 8 → lane result.1 l ≡ lane x.now (low_place 0 l + 1) }
+{
+    let (re, im) = (i64x8::from_array(x.re), i64x8::from_array(x.im));
+    let low = Eight {
+        re: re.swizzle([0, 0, 2, 2, 4, 4, 6, 6]).to_array(),
+        im: im.swizzle([0, 0, 2, 2, 4, 4, 6, 6]).to_array(),
+    };
+    let high = Eight {
+        re: re.swizzle([1, 1, 3, 3, 5, 5, 7, 7]).to_array(),
+        im: im.swizzle([1, 1, 3, 3, 5, 5, 7, 7]).to_array(),
+    };
+    (low, high)
+}
+
+// The pairs of two eights in turn, one lane at a time.
+#[inline(always)]
+fn mixed_by_one(x: &Eight, y: &Eight) -> Eight
+    requires x { EachWithin (2 ^ 62 - 1) x.now }
+    requires y { EachWithin (2 ^ 62 - 1) y.now }
+    ensures { (l : ℕ) → l < 8 → lane result l ≡ (if is_low 0 l then lane x.now l else lane y.now l) }
+{
+    let (x_re, x_im) = (i64x8::from_array(x.re), i64x8::from_array(x.im));
+    let (y_re, y_im) = (i64x8::from_array(y.re), i64x8::from_array(y.im));
+    Eight {
+        re: x_re.shuffle(y_re, [0, 9, 2, 11, 4, 13, 6, 15]).to_array(),
+        im: x_im.shuffle(y_im, [0, 9, 2, 11, 4, 13, 6, 15]).to_array(),
+    }
+}
+
+// The low and the high pair, in each lane, of two that stand two lanes apart.
+#[inline(always)]
+fn two_apart(x: &Eight) -> (Eight, Eight)
+    requires { EachWithin (2 ^ 62 - 1) x.now }
+    ensures low { (l : ℕ) → l < 8 → lane result.0 l ≡ lane x.now (low_place 1 l) }
+    ensures high { (l : ℕ) → l < 8 → lane result.1 l ≡ lane x.now (low_place 1 l + 2) }
+{
+    let (re, im) = (i64x8::from_array(x.re), i64x8::from_array(x.im));
+    let low = Eight {
+        re: re.swizzle([0, 1, 0, 1, 4, 5, 4, 5]).to_array(),
+        im: im.swizzle([0, 1, 0, 1, 4, 5, 4, 5]).to_array(),
+    };
+    let high = Eight {
+        re: re.swizzle([2, 3, 2, 3, 6, 7, 6, 7]).to_array(),
+        im: im.swizzle([2, 3, 2, 3, 6, 7, 6, 7]).to_array(),
+    };
+    (low, high)
+}
+
+// The pairs of two eights in turn, two lanes at a time.
+#[inline(always)]
+fn mixed_by_two(x: &Eight, y: &Eight) -> Eight
+    requires x { EachWithin (2 ^ 62 - 1) x.now }
+    requires y { EachWithin (2 ^ 62 - 1) y.now }
+    ensures { (l : ℕ) → l < 8 → lane result l ≡ (if is_low 1 l then lane x.now l else lane y.now l) }
+{
+    let (x_re, x_im) = (i64x8::from_array(x.re), i64x8::from_array(x.im));
+    let (y_re, y_im) = (i64x8::from_array(y.re), i64x8::from_array(y.im));
+    Eight {
+        re: x_re.shuffle(y_re, [0, 1, 10, 11, 4, 5, 14, 15]).to_array(),
+        im: x_im.shuffle(y_im, [0, 1, 10, 11, 4, 5, 14, 15]).to_array(),
+    }
+}
+
+// The low and the high pair, in each lane, of two that stand four lanes apart.
+#[inline(always)]
+fn four_apart(x: &Eight) -> (Eight, Eight)
+    requires { EachWithin (2 ^ 62 - 1) x.now }
+    ensures low { (l : ℕ) → l < 8 → lane result.0 l ≡ lane x.now (low_place 2 l) }
+    ensures high { (l : ℕ) → l < 8 → lane result.1 l ≡ lane x.now (low_place 2 l + 4) }
+{
+    let (re, im) = (i64x8::from_array(x.re), i64x8::from_array(x.im));
+    let low = Eight {
+        re: re.swizzle([0, 1, 2, 3, 0, 1, 2, 3]).to_array(),
+        im: im.swizzle([0, 1, 2, 3, 0, 1, 2, 3]).to_array(),
+    };
+    let high = Eight {
+        re: re.swizzle([4, 5, 6, 7, 4, 5, 6, 7]).to_array(),
+        im: im.swizzle([4, 5, 6, 7, 4, 5, 6, 7]).to_array(),
+    };
+    (low, high)
+}
+
+// The pairs of two eights in turn, four lanes at a time.
+#[inline(always)]
+fn mixed_by_four(x: &Eight, y: &Eight) -> Eight
+    requires x { EachWithin (2 ^ 62 - 1) x.now }
+    requires y { EachWithin (2 ^ 62 - 1) y.now }
+    ensures { (l : ℕ) → l < 8 → lane result l ≡ (if is_low 2 l then lane x.now l else lane y.now l) }
+{
+    let (x_re, x_im) = (i64x8::from_array(x.re), i64x8::from_array(x.im));
+    let (y_re, y_im) = (i64x8::from_array(y.re), i64x8::from_array(y.im));
+    Eight {
+        re: x_re.shuffle(y_re, [0, 1, 2, 3, 12, 13, 14, 15]).to_array(),
+        im: x_im.shuffle(y_im, [0, 1, 2, 3, 12, 13, 14, 15]).to_array(),
+    }
 }
