@@ -1,6 +1,6 @@
 -- Operations on eight lanes: each lane of the result, from those of the operands.
 use Rattle.std.proofs.Common.{length-append, ◌++◌, ◌&&◌, Bool, true, false, cond, eqb, ltb, inl, inr, ◌≡◌, ℕ, zero, suc, ◌+◌, ◌-◌, ◌*◌, ◌/◌, ◌^◌, ◌<◌, ◌≤◌, List, [], ◌∷◌, length, map, refl, ap, sym, ◌∙◌, arith, get_or, replicate, w64, to_z, of_z}
-use Rattle.std.specs.Prelude.{ℤ, pos, negsuc, ◌+ℤ◌, ◌-ℤ◌, ◌*ℤ◌, unsigned_abs, FitsSigned}
+use Rattle.std.specs.Prelude.{ℤ, pos, negsuc, neg_ℤ, ◌+ℤ◌, ◌-ℤ◌, ◌*ℤ◌, unsigned_abs, FitsSigned}
 use Rattle.std.specs.Simd.Lanes.{zip2, Each2}
 use Rattle.std.proofs.lemmas.Int.{ints, to_z-of_z, fits_signed_mul, fits_signed_from_abs}
 use Rattle.std.proofs.lemmas.List.{get_or-map, length-map, map-append, get_or_append_left, get_or-append_right}
@@ -14,7 +14,9 @@ use lib.Signed.{shr_z}
 use Rattle.integer_laws.specs.Floor.{floor_div}
 use Rattle.integer_laws.proofs.Order.{unsigned_abs-product}
 use Rattle.fixed_complex.specs.declared.Cx.{Cx}
-use Rattle.fixed_complex.specs.Pairs.{times, scaled_product}
+use Rattle.fixed_complex.specs.Pairs.{times, conjugate, scaled_product}
+use Rattle.std.proofs.Math.IntN.{neg_ℤ-neg_ℤ}
+use Rattle.integer_laws.proofs.Products.{neg_ℤ-*ℤ}
 use Rattle.fixed_complex.specs.Rounding.{half_up}
 use Rattle.butterfly64.specs.Lanes.{number, LanesWithin}
 
@@ -117,10 +119,15 @@ rounded_give xs l long w h =
       ∙ rw (lane_of_two plus_half (map bits xs) (replicate 8 524288) l xs_bits refl h, bits_in xs l long h, get_or-replicate {A = ℕ} 8 l 524288 0 h, get_or-replicate {A = ℕ} 8 l 20 0 h) refl)
     ∙ gives_rounded (number xs l) (w.each l h)
 
-pub half_up-within : (a : ℤ) → unsigned_abs a ≤ 2 ^ 61 → unsigned_abs (half_up 20 a) ≤ 2 ^ 62 - 1
+-- a floor is about so many times smaller
+floor_size : (z : ℤ) → unsigned_abs (floor_div z 1048576) ≤ unsigned_abs z / 1048576 + 1
+floor_size (pos n) = omega arith
+floor_size (negsuc n) = omega arith
+
+pub half_up-within : (a : ℤ) → unsigned_abs a ≤ 2 ^ 61 → unsigned_abs (half_up 20 a) ≤ 2 ^ 42
 half_up-within a p =
     let whole : unsigned_abs (a +ℤ pos 524288) ≤ 2 ^ 61 + 524288 = omega (arith, ints) in
-    omega (arith, floor_within (a +ℤ pos 524288))
+    omega (arith, floor_size (a +ℤ pos 524288))
 
 pub lanes_wider : (a b : ℕ) (xs : List ℤ) → a ≤ b → LanesWithin a xs → LanesWithin b xs
 lanes_wider a b xs h w = record { each = λ l lt. omega (arith, w.each l lt) }
@@ -172,3 +179,12 @@ picked_of_two ks xs ys first ks_long xs_long ys_long xs_within ys_within test l 
 pub pair_by : (b : Bool) (x y : Cx) (re im : ℤ) → re ≡ cond b x.re y.re → im ≡ cond b x.im y.im → let pair : Cx = record { re = re; im = im } in pair ≡ cond b x y
 pair_by true x y re im p q = λ i. record { re = p i; im = q i }
 pair_by false x y re im p q = λ i. record { re = p i; im = q i }
+
+-- a rounded product with a conjugate, from its parts
+pub scaled_back_of_parts : (w z : Cx) (p q r s d e : ℤ) → p ≡ w.re *ℤ z.re → q ≡ w.im *ℤ z.im → r ≡ w.re *ℤ z.im → s ≡ w.im *ℤ z.re → d ≡ half_up 20 (p +ℤ q) → e ≡ half_up 20 (r -ℤ s)
+    → let pair : Cx = record { re = d; im = e } in pair ≡ scaled_product (conjugate w) z
+unfolding scaled_product times
+scaled_back_of_parts w z p q r s d e p_is q_is r_is s_is d_is e_is =
+    let re : p +ℤ q ≡ w.re *ℤ z.re -ℤ neg_ℤ w.im *ℤ z.im = rw (p_is, q_is, neg_ℤ-*ℤ w.im z.im, neg_ℤ-neg_ℤ (w.im *ℤ z.im)) in
+    let im : r -ℤ s ≡ w.re *ℤ z.im +ℤ neg_ℤ w.im *ℤ z.re = rw (r_is, s_is, neg_ℤ-*ℤ w.im z.re) in
+    rw (d_is, e_is, re, im)

@@ -10,8 +10,8 @@ use std::simd::prelude::*;
 // Eight pairs.
 #[derive(Clone, Copy)]
 pub(crate) struct Eight {
-    re: [i64; 8],
-    im: [i64; 8],
+    pub(crate) re: [i64; 8],
+    pub(crate) im: [i64; 8],
 }
 
 // The sums of eight and eight numbers.
@@ -56,7 +56,7 @@ fn products(x: [i64; 8], y: [i64; 8]) -> [i64; 8]
 fn rounded(x: [i64; 8]) -> [i64; 8]
     requires { LanesWithin (2 ^ 61) x }
     ensures value { (l : ℕ) → l < 8 → number result l ≡ half_up 20 (number x l) }
-    ensures bound { LanesWithin (2 ^ 62 - 1) result }
+    ensures bound { LanesWithin (2 ^ 42) result }
 {
     let halves = i64x8::splat(1 << 19);
     (i64x8::from_array(x).strict_add(halves) >> i64x8::splat(20)).to_array()
@@ -94,7 +94,7 @@ fn scaled_lanes(w: &Eight, z: &Eight) -> Eight
     requires w { EachWithin (2 ^ 20) w.now }
     requires z { EachWithin (2 ^ 40) z.now }
     ensures value { (l : ℕ) → l < 8 → lane result l ≡ scaled_product (lane w.now l) (lane z.now l) }
-    ensures bound { EachWithin (2 ^ 62 - 1) result }
+    ensures bound { EachWithin (2 ^ 42) result }
 {
     Eight {
         re: rounded(differences(products(w.re, z.re), products(w.im, z.im))),
@@ -112,12 +112,28 @@ fn joined_lanes(even: &Eight, odd: &Eight, turns: &Eight) -> (Eight, Eight)
         ≡ plus (lane even.now l) (scaled_product (lane turns.now l) (lane odd.now l)) }
     ensures differences { (l : ℕ) → l < 8 → lane result.1 l
         ≡ minus (lane even.now l) (scaled_product (lane turns.now l) (lane odd.now l)) }
+    ensures sums_bound { EachWithin (2 ^ 43) result.0 }
+    ensures differences_bound { EachWithin (2 ^ 43) result.1 }
 {
     let turned = scaled_lanes(turns, odd);
     (plus_lanes(even, &turned), minus_lanes(even, &turned))
 }
 
-// The sums of eight and eight pairs, and the turns of their differences.
+// The products of eight pairs with the conjugates of eight others, over 2^20, rounded half up.
+#[inline(always)]
+fn scaled_back_lanes(w: &Eight, z: &Eight) -> Eight
+    requires w { EachWithin (2 ^ 20) w.now }
+    requires z { EachWithin (2 ^ 40) z.now }
+    ensures value { (l : ℕ) → l < 8 → lane result l ≡ scaled_product (conjugate (lane w.now l)) (lane z.now l) }
+    ensures bound { EachWithin (2 ^ 42) result }
+{
+    Eight {
+        re: rounded(sums(products(w.re, z.re), products(w.im, z.im))),
+        im: rounded(differences(products(w.re, z.im), products(w.im, z.re))),
+    }
+}
+
+// The sums of eight and eight pairs, and their differences turned back.
 #[inline(always)]
 fn parted_lanes(first: &Eight, last: &Eight, turns: &Eight) -> (Eight, Eight)
     requires first { EachWithin (2 ^ 39) first.now }
@@ -125,10 +141,15 @@ fn parted_lanes(first: &Eight, last: &Eight, turns: &Eight) -> (Eight, Eight)
     requires turns { EachWithin (2 ^ 20) turns.now }
     ensures sums { (l : ℕ) → l < 8 → lane result.0 l ≡ plus (lane first.now l) (lane last.now l) }
     ensures differences { (l : ℕ) → l < 8 → lane result.1 l
-        ≡ scaled_product (lane turns.now l) (minus (lane first.now l) (lane last.now l)) }
+        ≡ scaled_product (conjugate (lane turns.now l)) (minus (lane first.now l) (lane last.now l)) }
+    ensures sums_bound { EachWithin (2 ^ 43) result.0 }
+    ensures differences_bound { EachWithin (2 ^ 43) result.1 }
 {
     let difference = minus_lanes(first, last);
-    (plus_lanes(first, last), scaled_lanes(turns, &difference))
+    (
+        plus_lanes(first, last),
+        scaled_back_lanes(turns, &difference),
+    )
 }
 
 // The low and the high pair, in each lane, of two that stand one lane apart.
