@@ -7,3 +7,4 @@ pub mod Halves
 pub mod InPlace
 pub mod SumSizes
 pub mod LaneOps
+pub mod EightLanes

@@ -1,8 +1,9 @@
 -- Eight pairs in lanes, and lists of them (own).
-use Rattle.std.specs.Prelude.{ℕ, ◌+◌, ◌*◌, ◌/◌, ◌%◌, ◌^◌, ◌<◌, ◌≤◌, Bool, nat_lt, List, [], ◌∷◌, ◌++◌, map, ℤ, pos, slice_index_or, unsigned_abs}
+use Rattle.std.specs.Prelude.{ℕ, ◌+◌, ◌*◌, ◌/◌, ◌%◌, ◌^◌, ◌<◌, ◌≤◌, Bool, nat_lt, if◌then◌else◌, List, [], ◌∷◌, ◌++◌, map, ℤ, pos, slice_index_or, unsigned_abs}
 use Rattle.std.specs.List.{range_with_len}
 use Rattle.fixed_complex.specs.declared.Cx.{Cx}
-use Rattle.fixed_complex.specs.Pairs.{IsWithin}
+use Rattle.fixed_complex.specs.Pairs.{IsWithin, IsOfSize, plus, minus, conjugate, scaled_product}
+use Rattle.butterfly64.specs.StagedSums.{stage_turn}
 use Rattle.butterfly64.specs.declared.lanes.Eight.{Eight}
 
 -- the number in a lane
@@ -33,3 +34,21 @@ low_place k l = l / (2 * 2 ^ k) * (2 * 2 ^ k) + l % 2 ^ k
 -- lane l stands in the lower half of its block of a stage 2^k apart
 abbrev pub is_low : ℕ → ℕ → Bool
 is_low k l = nat_lt (l % (2 * 2 ^ k)) (2 ^ k)
+
+-- each of eight pairs is at most so large in size
+pub record EachOfSize (bound : ℕ) (x : Eight) : Type 0 where
+  pub each : (l : ℕ) → l < 8 → IsOfSize bound (lane x l)
+
+-- lane l after a join 2^k apart: the sum or the difference of a pair and the turn of another
+abbrev pub joined_at : ℕ → (ℕ → Cx) → ℕ → Cx
+joined_at k x l =
+    let p = low_place k l in
+    let t = scaled_product (stage_turn k (l % 2 ^ k)) (x (p + 2 ^ k)) in
+    if is_low k l then plus (x p) t else minus (x p) t
+
+-- lane l after a part 2^k apart: the sum of two pairs, or their difference turned back
+abbrev pub parted_at : ℕ → (ℕ → Cx) → ℕ → Cx
+parted_at k x l =
+    let p = low_place k l in
+    let t = scaled_product (conjugate (stage_turn k (l % 2 ^ k))) (minus (x p) (x (p + 2 ^ k))) in
+    if is_low k l then plus (x p) (x (p + 2 ^ k)) else t

@@ -104,7 +104,7 @@ fn scaled_lanes(w: &Eight, z: &Eight) -> Eight
 
 // The sums and the differences of eight pairs and the turns of eight others.
 #[inline(always)]
-fn joined_lanes(even: &Eight, odd: &Eight, turns: &Eight) -> (Eight, Eight)
+pub(crate) fn joined_lanes(even: &Eight, odd: &Eight, turns: &Eight) -> (Eight, Eight)
     requires even { EachWithin (2 ^ 40) even.now }
     requires odd { EachWithin (2 ^ 40) odd.now }
     requires turns { EachWithin (2 ^ 20) turns.now }
@@ -135,7 +135,7 @@ fn scaled_back_lanes(w: &Eight, z: &Eight) -> Eight
 
 // The sums of eight and eight pairs, and their differences turned back.
 #[inline(always)]
-fn parted_lanes(first: &Eight, last: &Eight, turns: &Eight) -> (Eight, Eight)
+pub(crate) fn parted_lanes(first: &Eight, last: &Eight, turns: &Eight) -> (Eight, Eight)
     requires first { EachWithin (2 ^ 39) first.now }
     requires last { EachWithin (2 ^ 39) last.now }
     requires turns { EachWithin (2 ^ 20) turns.now }
@@ -154,7 +154,7 @@ fn parted_lanes(first: &Eight, last: &Eight, turns: &Eight) -> (Eight, Eight)
 
 // The low and the high pair, in each lane, of two that stand one lane apart.
 #[inline(always)]
-fn one_apart(x: &Eight) -> (Eight, Eight)
+pub(crate) fn one_apart(x: &Eight) -> (Eight, Eight)
     requires { EachWithin (2 ^ 62 - 1) x.now }
     ensures low { (l : ℕ) → l < 8 → lane result.0 l ≡ lane x.now (low_place 0 l) }
     ensures high { (l : ℕ) → l < 8 → lane result.1 l ≡ lane x.now (low_place 0 l + 1) }
@@ -173,7 +173,7 @@ fn one_apart(x: &Eight) -> (Eight, Eight)
 
 // The pairs of two eights in turn, one lane at a time.
 #[inline(always)]
-fn mixed_by_one(x: &Eight, y: &Eight) -> Eight
+pub(crate) fn mixed_by_one(x: &Eight, y: &Eight) -> Eight
     requires x { EachWithin (2 ^ 62 - 1) x.now }
     requires y { EachWithin (2 ^ 62 - 1) y.now }
     ensures { (l : ℕ) → l < 8 → lane result l ≡ (if is_low 0 l then lane x.now l else lane y.now l) }
@@ -188,7 +188,7 @@ fn mixed_by_one(x: &Eight, y: &Eight) -> Eight
 
 // The low and the high pair, in each lane, of two that stand two lanes apart.
 #[inline(always)]
-fn two_apart(x: &Eight) -> (Eight, Eight)
+pub(crate) fn two_apart(x: &Eight) -> (Eight, Eight)
     requires { EachWithin (2 ^ 62 - 1) x.now }
     ensures low { (l : ℕ) → l < 8 → lane result.0 l ≡ lane x.now (low_place 1 l) }
     ensures high { (l : ℕ) → l < 8 → lane result.1 l ≡ lane x.now (low_place 1 l + 2) }
@@ -207,7 +207,7 @@ fn two_apart(x: &Eight) -> (Eight, Eight)
 
 // The pairs of two eights in turn, two lanes at a time.
 #[inline(always)]
-fn mixed_by_two(x: &Eight, y: &Eight) -> Eight
+pub(crate) fn mixed_by_two(x: &Eight, y: &Eight) -> Eight
     requires x { EachWithin (2 ^ 62 - 1) x.now }
     requires y { EachWithin (2 ^ 62 - 1) y.now }
     ensures { (l : ℕ) → l < 8 → lane result l ≡ (if is_low 1 l then lane x.now l else lane y.now l) }
@@ -222,7 +222,7 @@ fn mixed_by_two(x: &Eight, y: &Eight) -> Eight
 
 // The low and the high pair, in each lane, of two that stand four lanes apart.
 #[inline(always)]
-fn four_apart(x: &Eight) -> (Eight, Eight)
+pub(crate) fn four_apart(x: &Eight) -> (Eight, Eight)
     requires { EachWithin (2 ^ 62 - 1) x.now }
     ensures low { (l : ℕ) → l < 8 → lane result.0 l ≡ lane x.now (low_place 2 l) }
     ensures high { (l : ℕ) → l < 8 → lane result.1 l ≡ lane x.now (low_place 2 l + 4) }
@@ -241,7 +241,7 @@ fn four_apart(x: &Eight) -> (Eight, Eight)
 
 // The pairs of two eights in turn, four lanes at a time.
 #[inline(always)]
-fn mixed_by_four(x: &Eight, y: &Eight) -> Eight
+pub(crate) fn mixed_by_four(x: &Eight, y: &Eight) -> Eight
     requires x { EachWithin (2 ^ 62 - 1) x.now }
     requires y { EachWithin (2 ^ 62 - 1) y.now }
     ensures { (l : ℕ) → l < 8 → lane result l ≡ (if is_low 2 l then lane x.now l else lane y.now l) }
