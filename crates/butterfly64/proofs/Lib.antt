@@ -8,3 +8,4 @@ pub mod InPlace
 pub mod SumSizes
 pub mod LaneOps
 pub mod EightLanes
+pub mod PairsOfEights

@@ -52,3 +52,7 @@ parted_at k x l =
     let p = low_place k l in
     let t = scaled_product (conjugate (stage_turn k (l % 2 ^ k))) (minus (x p) (x (p + 2 ^ k))) in
     if is_low k l then plus (x p) (x (p + 2 ^ k)) else t
+
+-- the eight at a place of a list
+abbrev pub eight_in : List Eight → ℕ → Eight
+eight_in xs c = slice_index_or xs c (record { re = []; im = [] })

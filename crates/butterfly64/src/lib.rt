@@ -11,6 +11,7 @@ ghost use Rattle.butterfly64.specs.MirrorOrder.{mirror_of};
 mod eights;
 mod lane_turns;
 mod lanes;
+mod many_eights;
 
 use fixed_complex::{add, conj, scaled, sub, turn, Cx};
 
