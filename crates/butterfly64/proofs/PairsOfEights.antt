@@ -134,3 +134,22 @@ is_pairs_of xs ys xs_long ys_long h =
     let long : length (pairs_of xs) ≡ 64 = omega (arith, length-pairs_of xs) in
     ext_get_or zero_pair (pairs_of xs) ys (long ∙ sym ys_long)
     (λ n lt. let below : n < 64 = omega (arith, long) in entry-pairs_at xs n (omega arith) ∙ h n below)
+
+-- ---- bounds at each level
+pub most_of_level : (level : ℕ) → level ≤ 3 → 2 ^ (level - 1) ≤ 4
+most_of_level level h = leb-true _ _ (passes_at (λ i. leb (2 ^ (i - 1)) 4) 4 refl level (omega arith))
+
+pub parts_within : (level : ℕ) → 2 ^ 31 * 3 ^ (3 - level) ≤ 2 ^ 39
+parts_within level =
+    let within : 3 - level < 4 = omega arith in
+    leb-true _ _ (passes_at (λ i. leb (2 ^ 31 * 3 ^ i) (2 ^ 39)) 4 refl (3 - level) within)
+
+pub next_level : (level : ℕ) → 0 < level → level ≤ 3 → 2 ^ 31 * 3 ^ (3 - (level - 1)) ≡ 2 ^ 31 * 3 ^ (3 - level) * 3
+next_level level h g =
+    let e : 3 - (level - 1) ≡ suc (3 - level) = omega arith in
+    rw (e, pow-suc 3 (3 - level)) (omega arith)
+
+pub parts_above : (level : ℕ) → 4 ≤ 2 ^ 31 * 3 ^ (3 - level)
+parts_above level =
+    let within : 3 - level < 4 = omega arith in
+    leb-true _ _ (passes_at (λ i. leb 4 (2 ^ 31 * 3 ^ i)) 4 refl (3 - level) within)
