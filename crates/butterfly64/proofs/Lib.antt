@@ -9,3 +9,4 @@ pub mod SumSizes
 pub mod LaneOps
 pub mod EightLanes
 pub mod PairsOfEights
+pub mod Inputs

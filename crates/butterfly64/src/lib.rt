@@ -174,3 +174,6 @@ fn parted(first: Cx, last: Cx, m: usize) -> (Cx, Cx)
 {
     (add(first, last), scaled(conj(turn(m)), sub(first, last)))
 }
+
+#[cfg(test)]
+mod tests;
