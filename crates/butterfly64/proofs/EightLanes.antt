@@ -88,8 +88,9 @@ size-joined_at k s below above x h l lt =
     let t_size = size-scaled_product s (stage_turn k (l % 2 ^ k)) (x (p + 2 ^ k)) (turn-size (2 ^ (5 - k) * (l % 2 ^ k))) (h (p + 2 ^ k) within) in
     let low = h p (omega (arith, within)) in
     elim (is_low k l) as (λ b. IsOfSize (s * 3) (cond b (plus (x p) t) (minus (x p) t))) [
-      true ↦ wider (s + (s + s / 1048576 + 2)) (s * 3) _ (omega arith) (size-plus s (s + s / 1048576 + 2) (x p) t low t_size)
-      | false ↦ wider (s + (s + s / 1048576 + 2)) (s * 3) _ (omega arith) (size-minus s (s + s / 1048576 + 2) (x p) t low t_size) ]
+      | true ↦ wider (s + (s + s / 1048576 + 2)) (s * 3) _ (omega arith) (size-plus s (s + s / 1048576 + 2) (x p) t low t_size)
+      | false ↦ wider (s + (s + s / 1048576 + 2)) (s * 3) _ (omega arith) (size-minus s (s + s / 1048576 + 2) (x p) t low t_size)
+    ]
 
 pub size-parted_at : (k s : ℕ) → k < 3 → 4 ≤ s → (x : ℕ → Cx) → ((l : ℕ) → l < 8 → IsOfSize s (x l)) → (l : ℕ) → l < 8 → IsOfSize (s * 3) (parted_at k x l)
 size-parted_at k s below above x h l lt =
@@ -100,9 +101,10 @@ size-parted_at k s below above x h l lt =
     let low = h p (omega (arith, within)) in
     let high = h (p + 2 ^ k) within in
     elim (is_low k l) as (λ b. IsOfSize (s * 3) (cond b (plus (x p) (x (p + 2 ^ k))) t)) [
-      true ↦ wider (s + s) (s * 3) _ (omega arith) (size-plus s s (x p) (x (p + 2 ^ k)) low high)
+      | true ↦ wider (s + s) (s * 3) _ (omega arith) (size-plus s s (x p) (x (p + 2 ^ k)) low high)
       | false ↦ wider ((s + s) + (s + s) / 1048576 + 2) (s * 3) _ (omega arith)
-        (size-scaled_product (s + s) (conjugate (stage_turn k (l % 2 ^ k))) d (size-conjugate _ _ (turn-size (2 ^ (5 - k) * (l % 2 ^ k)))) (size-minus s s (x p) (x (p + 2 ^ k)) low high)) ]
+          (size-scaled_product (s + s) (conjugate (stage_turn k (l % 2 ^ k))) d (size-conjugate _ _ (turn-size (2 ^ (5 - k) * (l % 2 ^ k)))) (size-minus s s (x p) (x (p + 2 ^ k)) low high))
+    ]
 
 pub each_wider : (a b : ℕ) (x : Eight) → a ≤ b → ((l : ℕ) → l < 8 → IsOfSize a (lane x l)) → EachOfSize b x
 each_wider a b x h w = record { each = λ l lt. wider a b (lane x l) h (w l lt) }
@@ -117,7 +119,7 @@ pub turns_within_eight : (k : ℕ) → k < 3 → (l : ℕ) → l < 8 → lane (g
 unfolding turn_at
 turns_within_eight k k_below l l_below =
     pair_is_same _ _ (passes_at (λ l. same_pair (lane (get_or TURNS k no_pairs) l) (stage_turn k (l % 2 ^ k))) 8
-      (passes_at (λ k. passes_below (λ l. same_pair (lane (get_or TURNS k no_pairs) l) (stage_turn k (l % 2 ^ k))) 8) 3 refl k k_below) l l_below)
+    (passes_at (λ k. passes_below (λ l. same_pair (lane (get_or TURNS k no_pairs) l) (stage_turn k (l % 2 ^ k))) 8) 3 refl k k_below) l l_below)
 
 -- sizes after a stage
 pub after_join : (k s : ℕ) (x y : Eight) → k < 3 → 4 ≤ s → ((l : ℕ) → l < 8 → IsOfSize s (lane x l)) → ((l : ℕ) → l < 8 → lane y l ≡ joined_at k (lane x) l) → (l : ℕ) → l < 8 → IsOfSize (s * 3) (lane y l)

@@ -99,7 +99,6 @@ lanes_give f xs ys l xs_long ys_long h =
     number_in (zip2 f (map bits xs) (map bits ys)) l (length-zip2 f (map bits xs) (map bits ys) (xs_bits ∙ sym ys_bits) ∙ xs_bits) h
     ∙ ap (to_z w64) (lane_of_two f (map bits xs) (map bits ys) l xs_bits ys_bits h ∙ rw (bits_in xs l xs_long h, bits_in ys l ys_long h) refl)
 
-
 -- what a rounding asks, and what it gives
 pub rounded_ask : (xs : List ℤ) → length xs ≡ 8 → LanesWithin (2 ^ 61) xs → Each2 (Asks2 (add signed) (s_int w64) (s_int w64)) (map bits xs) (replicate 8 524288)
 rounded_ask xs long w = each_lane _ (map bits xs) (replicate 8 524288) (λ l lt.
@@ -116,7 +115,7 @@ rounded_give xs l long w h =
     let whole_long : length whole ≡ 8 = length-zip2 plus_half (map bits xs) (replicate 8 524288) xs_bits ∙ xs_bits in
     number_in (zip2 shift whole (replicate 8 20)) l (length-zip2 shift whole (replicate 8 20) whole_long ∙ whole_long) h
     ∙ ap (to_z w64) (lane_of_two shift whole (replicate 8 20) l whole_long refl h
-      ∙ rw (lane_of_two plus_half (map bits xs) (replicate 8 524288) l xs_bits refl h, bits_in xs l long h, get_or-replicate {A = ℕ} 8 l 524288 0 h, get_or-replicate {A = ℕ} 8 l 20 0 h) refl)
+    ∙ rw (lane_of_two plus_half (map bits xs) (replicate 8 524288) l xs_bits refl h, bits_in xs l long h, get_or-replicate {A = ℕ} 8 l 524288 0 h, get_or-replicate {A = ℕ} 8 l 20 0 h) refl)
     ∙ gives_rounded (number xs l) (w.each l h)
 
 -- a floor is about so many times smaller
@@ -151,8 +150,9 @@ picked ks xs ys ks_long xs_long ys_long xs_within ys_within l k h place below =
     ∙ ap (λ (bs : List ℕ). to_z w64 (get_or bs k 0)) (sym (map-append bits xs ys))
     ∙ ap (to_z w64) (get_or-map bits (xs ++ ys) k (pos 0) 0 (omega arith))
     ∙ held (number (xs ++ ys) k) (elim (cases_lt k 8) [
-        inl first ↦ rw (get_or_append_left xs ys (pos 0) k (omega arith)) (omega (arith, xs_within.each k first))
-        | inr last ↦ rw (get_or-append_right xs ys 8 k (pos 0) xs_long last) (omega (arith, ys_within.each (k - 8) (omega arith))) ])
+      | inl first ↦ rw (get_or_append_left xs ys (pos 0) k (omega arith)) (omega (arith, xs_within.each k first))
+      | inr last ↦ rw (get_or-append_right xs ys 8 k (pos 0) xs_long last) (omega (arith, ys_within.each (k - 8) (omega arith)))
+    ])
 
 -- those of one
 pub picked_of_one : (ks : List ℕ) (xs : List ℤ) (place : ℕ → ℕ) → length ks ≡ 8 → length xs ≡ 8 → LanesWithin (2 ^ 62 - 1) xs → passes_below (λ l. eqb (get_or ks l 0) (place l) && ltb (place l) 8) 8 ≡ true

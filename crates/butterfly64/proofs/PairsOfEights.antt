@@ -62,7 +62,7 @@ turns_of_eights : (k : ℕ) → k < 3 → (j : ℕ) → j < 2 ^ (k + 3) → lane
 unfolding turn_at
 turns_of_eights k k_below j j_below =
     pair_is_same _ _ (passes_at (λ j. same_pair (lane (eight_in TURNS (2 ^ k + 2 + j / 8)) (j % 8)) (stage_turn (k + 3) j)) (2 ^ (k + 3))
-      (passes_at (λ k. passes_below (λ j. same_pair (lane (eight_in TURNS (2 ^ k + 2 + j / 8)) (j % 8)) (stage_turn (k + 3) j)) (2 ^ (k + 3))) 3 refl k k_below) j j_below)
+    (passes_at (λ k. passes_below (λ j. same_pair (lane (eight_in TURNS (2 ^ k + 2 + j / 8)) (j % 8)) (stage_turn (k + 3) j)) (2 ^ (k + 3))) 3 refl k k_below) j j_below)
 
 -- eight times as many pairs as eights
 pub eight_times : (k : ℕ) → 2 ^ (k + 3) ≡ 8 * 2 ^ k
@@ -76,57 +76,61 @@ pub join_of_eights : (k : ℕ) → k < 3 → (es os first last : List Eight) →
     → ((c l : ℕ) → c < length os → l < 8 → lane (eight_in last c) l ≡ minus (lane (eight_in es c) l) (scaled_product (lane (eight_in TURNS (length es + 2 + c)) l) (lane (eight_in os c) l)))
     → IsJoin (k + 3) (pairs_of es) (pairs_of os) (pairs_of first) (pairs_of last)
 join_of_eights k below es os first last es_long os_long first_long last_long sums differences = record {
-    sums = λ j lt.
+  sums = λ j lt.
       let small : j < 8 * 2 ^ k = omega (arith, eight_times k) in
       let turn = turns_of_eights k below j lt in
       let here = sums (j / 8) (j % 8) (omega (arith, small)) (omega arith) in
       rw (entry-pairs_at first j (omega (arith, small)), entry-pairs_at es j (omega (arith, small)), entry-pairs_at os j (omega (arith, small)), ← turn, ← es_long) here;
-    differences = λ j lt.
+  differences = λ j lt.
       let small : j < 8 * 2 ^ k = omega (arith, eight_times k) in
       let turn = turns_of_eights k below j lt in
       let here = differences (j / 8) (j % 8) (omega (arith, small)) (omega arith) in
-      rw (entry-pairs_at last j (omega (arith, small)), entry-pairs_at es j (omega (arith, small)), entry-pairs_at os j (omega (arith, small)), ← turn, ← es_long) here
-  }
+      rw (entry-pairs_at last j (omega (arith, small)), entry-pairs_at es j (omega (arith, small)), entry-pairs_at os j (omega (arith, small)), ← turn, ← es_long) here;
+}
 
 pub part_of_eights : (k : ℕ) → k < 3 → (xs ys first last : List Eight) → length xs ≡ 2 ^ k → length ys ≡ 2 ^ k → length first ≡ 2 ^ k → length last ≡ 2 ^ k
     → ((c l : ℕ) → c < length xs → l < 8 → lane (eight_in first c) l ≡ plus (lane (eight_in xs c) l) (lane (eight_in ys c) l))
     → ((c l : ℕ) → c < length ys → l < 8 → lane (eight_in last c) l ≡ scaled_product (conjugate (lane (eight_in TURNS (length xs + 2 + c)) l)) (minus (lane (eight_in xs c) l) (lane (eight_in ys c) l)))
     → IsPart (k + 3) (pairs_of xs) (pairs_of ys) (pairs_of first) (pairs_of last)
 part_of_eights k below xs ys first last xs_long ys_long first_long last_long sums differences = record {
-    sums = λ j lt.
+  sums = λ j lt.
       let small : j < 8 * 2 ^ k = omega (arith, eight_times k) in
       let here = sums (j / 8) (j % 8) (omega (arith, small)) (omega arith) in
       rw (entry-pairs_at first j (omega (arith, small)), entry-pairs_at xs j (omega (arith, small)), entry-pairs_at ys j (omega (arith, small))) here;
-    differences = λ j lt.
+  differences = λ j lt.
       let small : j < 8 * 2 ^ k = omega (arith, eight_times k) in
       let turn = turns_of_eights k below j lt in
       let here = differences (j / 8) (j % 8) (omega (arith, small)) (omega arith) in
-      rw (entry-pairs_at last j (omega (arith, small)), entry-pairs_at xs j (omega (arith, small)), entry-pairs_at ys j (omega (arith, small)), ← turn, ← xs_long) here
-  }
+      rw (entry-pairs_at last j (omega (arith, small)), entry-pairs_at xs j (omega (arith, small)), entry-pairs_at ys j (omega (arith, small)), ← turn, ← xs_long) here;
+}
 
 -- ---- one eight
 -- a list of one eight, replaced
 pub up_of_one_eight : (xs : List Eight) (y : Eight) → length xs ≡ 1 → ((l : ℕ) → l < 8 → lane y l ≡ up_at 3 (λ m. lane (eight_in xs 0) (mirror_of 3 m)) l) → IsUp 3 (pairs_of xs) (pairs_of (set xs 0 y))
-up_of_one_eight xs y long h = record { each = λ n lt.
-    let replaced = get_or-set_same xs 0 y (record { re = []; im = [] }) (omega arith) in
-    let place : 8 * 0 + n ≡ n = omega arith in
-    let pairs : (λ m. lane (eight_in xs 0) (mirror_of 3 m)) ≡ mirrored 3 (pairs_of xs) = same_pairs _ _ (λ m.
+up_of_one_eight xs y long h = record {
+  each = λ n lt.
+      let replaced = get_or-set_same xs 0 y (record { re = []; im = [] }) (omega arith) in
+      let place : 8 * 0 + n ≡ n = omega arith in
+      let pairs : (λ m. lane (eight_in xs 0) (mirror_of 3 m)) ≡ mirrored 3 (pairs_of xs) = same_pairs _ _ (λ m.
       sym (ap (entry (pairs_of xs)) (let e : mirror_of 3 m ≡ 8 * 0 + mirror_of 3 m = omega arith in e) ∙ entry-pairs_of xs 0 (mirror_of 3 m) (omega arith) (mirror_of-below 3 m))) in
-    ap (entry (pairs_of (set xs 0 y))) (sym place)
-    ∙ entry-pairs_of (set xs 0 y) 0 n (omega (arith, length-set xs 0 y)) lt
-    ∙ ap (λ e. lane e n) replaced
-    ∙ h n lt
-    ∙ ap (λ x. up_at 3 x n) pairs }
+      ap (entry (pairs_of (set xs 0 y))) (sym place)
+      ∙ entry-pairs_of (set xs 0 y) 0 n (omega (arith, length-set xs 0 y)) lt
+      ∙ ap (λ e. lane e n) replaced
+      ∙ h n lt
+      ∙ ap (λ x. up_at 3 x n) pairs;
+}
 
 pub down_of_one_eight : (xs : List Eight) (y : Eight) → length xs ≡ 1 → ((l : ℕ) → l < 8 → lane y (mirror_of 3 l) ≡ down_at 3 (lane (eight_in xs 0)) l) → IsDown 3 (pairs_of xs) (pairs_of (set xs 0 y))
-down_of_one_eight xs y long h = record { each = λ n lt.
-    let replaced = get_or-set_same xs 0 y (record { re = []; im = [] }) (omega arith) in
-    let place : 8 * 0 + mirror_of 3 n ≡ mirror_of 3 n = omega arith in
-    ap (entry (pairs_of (set xs 0 y))) (sym place)
-    ∙ entry-pairs_of (set xs 0 y) 0 (mirror_of 3 n) (omega (arith, length-set xs 0 y)) (mirror_of-below 3 n)
-    ∙ ap (λ e. lane e (mirror_of 3 n)) replaced
-    ∙ h n lt
-    ∙ down_at-local 3 (lane (eight_in xs 0)) (entry (pairs_of xs)) (λ m m_lt. sym (ap (entry (pairs_of xs)) (let e : m ≡ 8 * 0 + m = omega arith in e) ∙ entry-pairs_of xs 0 m (omega arith) m_lt)) n }
+down_of_one_eight xs y long h = record {
+  each = λ n lt.
+      let replaced = get_or-set_same xs 0 y (record { re = []; im = [] }) (omega arith) in
+      let place : 8 * 0 + mirror_of 3 n ≡ mirror_of 3 n = omega arith in
+      ap (entry (pairs_of (set xs 0 y))) (sym place)
+      ∙ entry-pairs_of (set xs 0 y) 0 (mirror_of 3 n) (omega (arith, length-set xs 0 y)) (mirror_of-below 3 n)
+      ∙ ap (λ e. lane e (mirror_of 3 n)) replaced
+      ∙ h n lt
+      ∙ down_at-local 3 (lane (eight_in xs 0)) (entry (pairs_of xs)) (λ m m_lt. sym (ap (entry (pairs_of xs)) (let e : m ≡ 8 * 0 + m = omega arith in e) ∙ entry-pairs_of xs 0 m (omega arith) m_lt)) n;
+}
 
 -- ---- all pairs of eight eights
 pub is_pairs_of : (xs : List Eight) (ys : List Cx) → length xs ≡ 8 → length ys ≡ 64 → ((n : ℕ) → n < 64 → lane (eight_in xs (n / 8)) (n % 8) ≡ entry ys n) → pairs_of xs ≡ ys

@@ -6,8 +6,8 @@ ghost use Rattle.butterfly64.specs.StagedSums.{down_at, up_at};
 
 use crate::lane_turns::TURNS;
 use crate::lanes::{
-    four_apart, joined_lanes, mixed_by_four, mixed_by_one, mixed_by_two, one_apart, parted_lanes,
-    two_apart, Eight,
+    Eight, four_apart, joined_lanes, mixed_by_four, mixed_by_one, mixed_by_two, one_apart,
+    parted_lanes, two_apart,
 };
 
 // Replaces eight pairs in mirror order by their staged sums `up`.

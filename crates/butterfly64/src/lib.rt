@@ -14,7 +14,7 @@ mod lanes;
 mod many_eights;
 
 use crate::many_eights::{down_eights, eights, pairs, up_eights};
-use fixed_complex::{add, conj, scaled, sub, turn, Cx};
+use fixed_complex::{Cx, add, conj, scaled, sub, turn};
 
 /// The staged sums `up` of 64 pairs whose components are at most 2^30 in size: at place n about the sum over c of
 /// x(c) * T[c*n] / 2^20, rounded at each of six joins (own). Works in lanes. Takes no memory.

@@ -8,7 +8,7 @@ ghost use Rattle.butterfly64.specs.StagedSums.{down_at, entry, up_at};
 
 use crate::eights::{down_eight, up_eight};
 use crate::lane_turns::TURNS;
-use crate::lanes::{joined_lanes, parted_lanes, Eight};
+use crate::lanes::{Eight, joined_lanes, parted_lanes};
 use fixed_complex::Cx;
 
 // Replaces 2^level eights of pairs in mirror order by their staged sums `up`.
@@ -57,10 +57,10 @@ fn join_eights(evens: &mut [Eight], odds: &mut [Eight])
     requires odds { AreOfSize (2 ^ 39) (pairs_of odds.old) }
     ensures sums { (c l : ℕ) → c < length evens.old → l < 8 → lane (eight_in evens.new c) l
         ≡ plus (lane (eight_in evens.old c) l)
-            (scaled_product (lane (eight_in TURNS (length evens.old + 2 + c)) l) (lane (eight_in odds.old c) l)) }
+        (scaled_product (lane (eight_in TURNS (length evens.old + 2 + c)) l) (lane (eight_in odds.old c) l)) }
     ensures differences { (c l : ℕ) → c < length odds.old → l < 8 → lane (eight_in odds.new c) l
         ≡ minus (lane (eight_in evens.old c) l)
-            (scaled_product (lane (eight_in TURNS (length evens.old + 2 + c)) l) (lane (eight_in odds.old c) l)) }
+        (scaled_product (lane (eight_in TURNS (length evens.old + 2 + c)) l) (lane (eight_in odds.old c) l)) }
 {
     let turns = evens.len() + 2;
     for c in 0..evens.len() {
@@ -80,7 +80,7 @@ fn part_eights(first: &mut [Eight], last: &mut [Eight])
         ≡ plus (lane (eight_in first.old c) l) (lane (eight_in last.old c) l) }
     ensures differences { (c l : ℕ) → c < length last.old → l < 8 → lane (eight_in last.new c) l
         ≡ scaled_product (conjugate (lane (eight_in TURNS (length first.old + 2 + c)) l))
-            (minus (lane (eight_in first.old c) l) (lane (eight_in last.old c) l)) }
+        (minus (lane (eight_in first.old c) l) (lane (eight_in last.old c) l)) }
 {
     let turns = first.len() + 2;
     for c in 0..first.len() {

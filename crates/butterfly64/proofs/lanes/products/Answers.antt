@@ -11,5 +11,7 @@ pub returns-clause-value : goal.returns-clause-value
 returns-clause-value c = λ l h. lanes_give _ c.args.x c.args.y l (search rules) (search rules) h ∙ gives_mul (number c.args.x l) (number c.args.y l) (c.requires.x.each l h) (c.requires.y.each l h)
 
 pub returns-clause-bound : goal.returns-clause-bound
-returns-clause-bound c = record { each = λ l h.
-    rw (returns-clause-value c l h) (unsigned_abs-product (number c.args.x l) (number c.args.y l) (2 ^ 20) (2 ^ 40) (c.requires.x.each l h) (c.requires.y.each l h)) }
+returns-clause-bound c = record {
+  each = λ l h.
+      rw (returns-clause-value c l h) (unsigned_abs-product (number c.args.x l) (number c.args.y l) (2 ^ 20) (2 ^ 40) (c.requires.x.each l h) (c.requires.y.each l h));
+}

@@ -17,12 +17,16 @@ pub differences-requires-clause-y : goal.differences-requires-clause-y
 differences-requires-clause-y c = lanes_wider (2 ^ 60) (2 ^ 62 - 1) _ (omega arith) c.products-4.ensures.bound
 
 pub rounded-requires : goal.rounded-requires
-rounded-requires c = record { each = λ l h. rw (c.sums.ensures l h)
-  (omega (arith, unsigned_abs-sum (number c.products.result l) (number c.products-2.result l), c.products.ensures.bound.each l h, c.products-2.ensures.bound.each l h)) }
+rounded-requires c = record {
+  each = λ l h. rw (c.sums.ensures l h)
+      (omega (arith, unsigned_abs-sum (number c.products.result l) (number c.products-2.result l), c.products.ensures.bound.each l h, c.products-2.ensures.bound.each l h));
+}
 
 pub rounded-requires-2 : goal.rounded-requires-2
-rounded-requires-2 c = record { each = λ l h. rw (c.differences.ensures l h)
-  (omega (arith, unsigned_abs-difference (number c.products-3.result l) (number c.products-4.result l), c.products-3.ensures.bound.each l h, c.products-4.ensures.bound.each l h)) }
+rounded-requires-2 c = record {
+  each = λ l h. rw (c.differences.ensures l h)
+      (omega (arith, unsigned_abs-difference (number c.products-3.result l) (number c.products-4.result l), c.products-3.ensures.bound.each l h, c.products-4.ensures.bound.each l h));
+}
 
 pub returns-clause-value : goal.returns-clause-value
 returns-clause-value c = λ l h.

@@ -17,18 +17,32 @@ returns-then-level-eq0 t c =
 pub up_eights-requires : goal.up_eights-requires
 up_eights-requires t c =
     let above : 0 < c.args.level = omega arith in
-    let half = half_of c.args.level _ above c.requires.length in
-    (omega arith, (omega arith, (omega (arith, half),
-      sizes-first (2 ^ 31) (pairs_of c.split_at_mut-evens.result.0.now) (pairs_of c.split_at_mut-evens.result.1.now)
-        (rw (c.split_at_mut-evens.ensures.value, pairs_of-append c.split_at_mut-evens.result.0.now c.split_at_mut-evens.result.1.now) at c.requires.sizes))))
+    let half = half_of c.args.level _ above c.requires.length in (
+      omega arith,
+      (
+        omega arith,
+        (
+          omega (arith, half),
+          sizes-first (2 ^ 31) (pairs_of c.split_at_mut-evens.result.0.now) (pairs_of c.split_at_mut-evens.result.1.now)
+              (rw (c.split_at_mut-evens.ensures.value, pairs_of-append c.split_at_mut-evens.result.0.now c.split_at_mut-evens.result.1.now) at c.requires.sizes),
+        ),
+      ),
+    )
 
 pub up_eights-requires-else-level-eq0 : goal.up_eights-requires-else-level-eq0
 up_eights-requires-else-level-eq0 t c =
     let above : 0 < c.args.level = omega arith in
-    let half = half_of c.args.level _ above c.requires.length in
-    (omega arith, (omega arith, (omega (arith, half, half_length c.args.level above),
-      sizes-last (2 ^ 31) (pairs_of c.split_at_mut-evens.result.0.now) (pairs_of c.split_at_mut-evens.result.1.now)
-        (rw (c.split_at_mut-evens.ensures.value, pairs_of-append c.split_at_mut-evens.result.0.now c.split_at_mut-evens.result.1.now) at c.requires.sizes))))
+    let half = half_of c.args.level _ above c.requires.length in (
+      omega arith,
+      (
+        omega arith,
+        (
+          omega (arith, half, half_length c.args.level above),
+          sizes-last (2 ^ 31) (pairs_of c.split_at_mut-evens.result.0.now) (pairs_of c.split_at_mut-evens.result.1.now)
+              (rw (c.split_at_mut-evens.ensures.value, pairs_of-append c.split_at_mut-evens.result.0.now c.split_at_mut-evens.result.1.now) at c.requires.sizes),
+        ),
+      ),
+    )
 
 pub join_eights-requires-clause-most : goal.join_eights-requires-clause-most
 join_eights-requires-clause-most t c =
@@ -48,9 +62,9 @@ join_eights-requires-clause-evens t c =
     let evens_long : length c.split_at_mut-evens.result.0.now ≡ 2 ^ k = omega (arith, half) in
     let sums_long : length c.up_eights.new.x ≡ 2 ^ k = omega (arith, evens_long) in
     up_sizes (k + 3) (pairs_of c.split_at_mut-evens.result.0.now) (pairs_of c.up_eights.new.x) (omega arith) (long_pairs k _ evens_long) (long_pairs k _ sums_long)
-      (sizes-first (2 ^ 31) (pairs_of c.split_at_mut-evens.result.0.now) (pairs_of c.split_at_mut-evens.result.1.now)
-        (rw (c.split_at_mut-evens.ensures.value, pairs_of-append c.split_at_mut-evens.result.0.now c.split_at_mut-evens.result.1.now) at c.requires.sizes))
-      (record { each = c.up_eights.ensures })
+    (sizes-first (2 ^ 31) (pairs_of c.split_at_mut-evens.result.0.now) (pairs_of c.split_at_mut-evens.result.1.now)
+    (rw (c.split_at_mut-evens.ensures.value, pairs_of-append c.split_at_mut-evens.result.0.now c.split_at_mut-evens.result.1.now) at c.requires.sizes))
+    (record { each = c.up_eights.ensures })
 
 pub join_eights-requires-clause-odds : goal.join_eights-requires-clause-odds
 join_eights-requires-clause-odds t c =
@@ -60,9 +74,9 @@ join_eights-requires-clause-odds t c =
     let odds_long : length c.split_at_mut-evens.result.1.now ≡ 2 ^ k = omega (arith, half, half_length c.args.level above) in
     let sums_long : length c.up_eights-else-level-eq0.new.x ≡ 2 ^ k = omega (arith, odds_long) in
     up_sizes (k + 3) (pairs_of c.split_at_mut-evens.result.1.now) (pairs_of c.up_eights-else-level-eq0.new.x) (omega arith) (long_pairs k _ odds_long) (long_pairs k _ sums_long)
-      (sizes-last (2 ^ 31) (pairs_of c.split_at_mut-evens.result.0.now) (pairs_of c.split_at_mut-evens.result.1.now)
-        (rw (c.split_at_mut-evens.ensures.value, pairs_of-append c.split_at_mut-evens.result.0.now c.split_at_mut-evens.result.1.now) at c.requires.sizes))
-      (record { each = c.up_eights-else-level-eq0.ensures })
+    (sizes-last (2 ^ 31) (pairs_of c.split_at_mut-evens.result.0.now) (pairs_of c.split_at_mut-evens.result.1.now)
+    (rw (c.split_at_mut-evens.ensures.value, pairs_of-append c.split_at_mut-evens.result.0.now c.split_at_mut-evens.result.1.now) at c.requires.sizes))
+    (record { each = c.up_eights-else-level-eq0.ensures })
 
 pub returns-else-level-eq0 : goal.returns-else-level-eq0
 returns-else-level-eq0 t c =
@@ -76,9 +90,9 @@ returns-else-level-eq0 t c =
     let first_long : length c.join_eights.new.evens ≡ 2 ^ k = omega (arith, es_long) in
     let last_long : length c.join_eights.new.odds ≡ 2 ^ k = omega (arith, os_long) in
     let join = join_of_eights k (omega arith) c.up_eights.new.x c.up_eights-else-level-eq0.new.x c.join_eights.new.evens c.join_eights.new.odds es_long os_long first_long last_long
-      c.join_eights.ensures.sums c.join_eights.ensures.differences in
+    c.join_eights.ensures.sums c.join_eights.ensures.differences in
     let up = up_of_halves (k + 3) (pairs_of c.split_at_mut-evens.result.0.now) (pairs_of c.split_at_mut-evens.result.1.now) (pairs_of c.up_eights.new.x) (pairs_of c.up_eights-else-level-eq0.new.x)
-      (pairs_of c.join_eights.new.evens) (pairs_of c.join_eights.new.odds) (long_pairs k _ evens_long) (long_pairs k _ first_long)
-      (record { each = c.up_eights.ensures }) (record { each = c.up_eights-else-level-eq0.ensures }) join in
+    (pairs_of c.join_eights.new.evens) (pairs_of c.join_eights.new.odds) (long_pairs k _ evens_long) (long_pairs k _ first_long)
+    (record { each = c.up_eights.ensures }) (record { each = c.up_eights-else-level-eq0.ensures }) join in
     let level : c.args.level + 3 ≡ suc (k + 3) = omega arith in
     rw (c.split_at_mut-evens.ensures.value, pairs_of-append c.split_at_mut-evens.result.0.now c.split_at_mut-evens.result.1.now, pairs_of-append c.join_eights.new.evens c.join_eights.new.odds, level) up.each

@@ -7,5 +7,5 @@ abbrev pub invariant-loop-l : goal.invariant-loop-l
 invariant-loop-l l = record {
   re_long : length l.eight.re ≡ 8;
   im_long : length l.eight.im ≡ 8;
-  done : (k : ℕ) → k < l.l → lane l.eight k ≡ entry l.x (l.place + k)
+  done : (k : ℕ) → k < l.l → lane l.eight k ≡ entry l.x (l.place + k);
 }

@@ -10,5 +10,5 @@ invariant-loop-c l = record {
   evens_done : (k m : ℕ) → k < l.c → m < 8 → lane (eight_in l.evens k) m ≡ plus (lane (eight_in l.fn.evens k) m) (scaled_product (lane (eight_in TURNS (length l.fn.evens + 2 + k)) m) (lane (eight_in l.fn.odds k) m));
   odds_done : (k m : ℕ) → k < l.c → m < 8 → lane (eight_in l.odds k) m ≡ minus (lane (eight_in l.fn.evens k) m) (scaled_product (lane (eight_in TURNS (length l.fn.evens + 2 + k)) m) (lane (eight_in l.fn.odds k) m));
   evens_left : (k : ℕ) → l.c ≤ k → eight_in l.evens k ≡ eight_in l.fn.evens k;
-  odds_left : (k : ℕ) → l.c ≤ k → eight_in l.odds k ≡ eight_in l.fn.odds k
+  odds_left : (k : ℕ) → l.c ≤ k → eight_in l.odds k ≡ eight_in l.fn.odds k;
 }

@@ -10,5 +10,5 @@ invariant-loop-c l = record {
   first_done : (k m : ℕ) → k < l.c → m < 8 → lane (eight_in l.first k) m ≡ plus (lane (eight_in l.fn.first k) m) (lane (eight_in l.fn.last k) m);
   last_done : (k m : ℕ) → k < l.c → m < 8 → lane (eight_in l.last k) m ≡ scaled_product (conjugate (lane (eight_in TURNS (length l.fn.first + 2 + k)) m)) (minus (lane (eight_in l.fn.first k) m) (lane (eight_in l.fn.last k) m));
   first_left : (k : ℕ) → l.c ≤ k → eight_in l.first k ≡ eight_in l.fn.first k;
-  last_left : (k : ℕ) → l.c ≤ k → eight_in l.last k ≡ eight_in l.fn.last k
+  last_left : (k : ℕ) → l.c ≤ k → eight_in l.last k ≡ eight_in l.fn.last k;
 }
