@@ -1,0 +1,15 @@
+-- Lists as the lanes read them (own).
+use Rattle.std.specs.Prelude.{ℕ, List, [], ◌∷◌, slice_index_or, ℤ, pos}
+use Rattle.fixed_complex.specs.declared.Sample.{Sample}
+
+-- the number at a place of a list, and 0 past its end
+abbrev pub number_at : List ℤ → ℕ → ℤ
+number_at numbers n = slice_index_or numbers n (pos 0)
+
+-- the sample at a place of a list, and silence past its end
+abbrev pub sample_at : List Sample → ℕ → Sample
+sample_at samples n = slice_index_or samples n (record { i = pos 0; q = pos 0 })
+
+-- one entry for each of eight lanes
+abbrev pub eight : {X : Type 0} → (ℕ → X) → List X
+eight f = f 0 ∷ f 1 ∷ f 2 ∷ f 3 ∷ f 4 ∷ f 5 ∷ f 6 ∷ f 7 ∷ []
