@@ -1,0 +1,3 @@
+mod ByTable
+mod Parts
+mod Turning

@@ -1,8 +1,7 @@
 -- What the laws of the turns speak of (own).
-use Rattle.std.specs.Prelude.{ℕ, ◌*◌, zero, suc}
+use Rattle.std.specs.Prelude.{ℕ, zero, suc}
 use Rattle.fixed_complex.specs.declared.Cx.{Cx}
 use Rattle.fixed_complex.specs.Pairs.{plus, zero_pair}
-use Rattle.fixed_complex.specs.Turns.{turn_at}
 
 -- the sum of the pairs at the places below a number
 unfoldable pub sum_below : ℕ → (ℕ → Cx) → Cx

@@ -2,7 +2,8 @@
 
 ghost use Rattle.std.specs.Prelude.{◌≡◌, ◌≢◌, ℕ, ◌+◌, ◌*◌, ◌^◌, ◌%◌, ◌≤◌, pos, unsigned_abs};
 ghost use Rattle.fixed_complex.specs.Laws.{sum_below};
-ghost use Rattle.fixed_complex.specs.Pairs.{IsOfSize, IsWithin, minus, multiple, times, zero_pair};
+ghost use Rattle.fixed_complex.specs.Pairs.{IsOfSize, IsWithin, conjugate, minus, multiple, plus, scaled_product, times, zero_pair};
+ghost use Rattle.fixed_complex.specs.declared.Cx.{Cx};
 ghost use Rattle.fixed_complex.specs.Turns.{turn_at};
 
 /// A whole turn changes nothing, a half turn changes the sign, a quarter turn is the product with (0, 1) (own).
@@ -32,4 +33,21 @@ pub fn size_of_a_turn()
     ensures within { (m : ℕ) → IsWithin (2 ^ 20) (turn_at m) }
     ensures sum { (m : ℕ) → unsigned_abs (turn_at m).re + unsigned_abs (turn_at m).im ≤ 1482910 }
     ensures size { (m : ℕ) → IsOfSize 1048577 (turn_at m) }
+{}
+
+/// The size of a sum or a difference is at most the sum of the sizes, that of a product the product of the sizes; a
+/// component is at most the size, and the size at most the sum of two bounds on the components (own).
+pub fn sizes_of_pairs()
+    ensures sum { (a b : ℕ) (x y : Cx) → IsOfSize a x → IsOfSize b y → IsOfSize (a + b) (plus x y) }
+    ensures difference { (a b : ℕ) (x y : Cx) → IsOfSize a x → IsOfSize b y → IsOfSize (a + b) (minus x y) }
+    ensures product { (a b : ℕ) (x y : Cx) → IsOfSize a x → IsOfSize b y → IsOfSize (a * b) (times x y) }
+    ensures conjugate { (a : ℕ) (x : Cx) → IsOfSize a x → IsOfSize a (conjugate x) }
+    ensures component { (a : ℕ) (x : Cx) → IsOfSize a x → IsWithin a x }
+    ensures components { (a : ℕ) (x : Cx) → IsWithin a x → IsOfSize (a + a) x }
+    ensures monotone { (a b : ℕ) (x : Cx) → a ≤ b → IsOfSize a x → IsOfSize b x }
+{}
+
+/// 2^20 times the rounded product over 2^20 is within half of 2^20 of the product, in each component (own).
+pub fn rounding_of_products()
+    ensures { (w z : Cx) → IsWithin (2 ^ 19) (minus (multiple (pos (2 ^ 20)) (scaled_product w z)) (times w z)) }
 {}

@@ -1,10 +1,10 @@
 //! Whole-number pairs, the samples of a capture, rounding, and the turns of a circle (own). No call takes memory.
 #![tactic(auto)]
 
-ghost use Rattle.std.specs.Prelude.{◌≡◌, ℕ, ◌*◌, ◌^◌, ◌≤◌, ◌*ℤ◌, unsigned_abs};
+ghost use Rattle.std.specs.Prelude.{◌≡◌, ℕ, ◌*◌, ◌^◌, ◌<◌, ◌≤◌, ◌*ℤ◌, unsigned_abs};
 ghost use Rattle.fixed_complex.specs.Pairs.{IsWithin, conjugate, minus, plus, scaled_product, times};
 ghost use Rattle.fixed_complex.specs.Rounding.{half_up};
-ghost use Rattle.fixed_complex.specs.Turns.{turn_at};
+ghost use Rattle.fixed_complex.specs.Turns.{cosine_at, turn_at};
 
 pub mod laws;
 
@@ -94,21 +94,31 @@ fn product(x: i64, y: i64) -> i64
 // A part of a product over 2^20, rounded half up.
 fn over_2_20(part: i64) -> i64
     requires { unsigned_abs part ≤ 2 ^ 61 }
-    ensures { result ≡ half_up 20 part }
+    ensures value { result ≡ half_up 20 part }
+    ensures bound { unsigned_abs result ≤ 2 ^ 42 }
 {
     (part + (1 << 19)) >> 20
 }
 
 /// 2^20 times the turn of m 64ths of a circle against the clock, its cosine and its sine rounded to whole numbers
 /// (own).
+#[tactic(auto, unfolding(crate::specs::Turns::turn_at))]
 pub fn turn(m: usize) -> Cx
     ensures { result ≡ turn_at m }
 {
     let place = m % 64;
     Cx {
-        re: COSINES[place],
-        im: COSINES[(place + 48) % 64],
+        re: cosine(place),
+        im: cosine((place + 48) % 64),
     }
+}
+
+// 2^20 times the cosine of so many 64ths of a circle.
+fn cosine(place: usize) -> i64
+    requires { place < 64 }
+    ensures { result ≡ cosine_at place }
+{
+    COSINES[place]
 }
 
 // The cosines of the 64ths of a circle, times 2^20.
@@ -120,3 +130,19 @@ static COSINES: [i64; 64] = [
     -582558, -494295, -401273, -304386, -204567, -102778, 0, 102778, 204567, 304386, 401273,
     494295, 582558, 665210, 741455, 810560, 871859, 924761, 968758, 1003425, 1028428, 1043527,
 ];
+
+#[cfg(test)]
+mod tests {
+    use super::*;
+
+    // Halves are rounded up, also those below 0.
+    #[test]
+    fn rounds_half_up(rt: HostRuntime) {
+        let one = Cx { re: 1, im: 0 };
+        let halves = Cx {
+            re: 524288,
+            im: -524288,
+        };
+        assert_eq!(rt; scaled(one, halves), one);
+    }
+}

@@ -1,1 +1,2 @@
 pub mod Floor
+pub mod Size

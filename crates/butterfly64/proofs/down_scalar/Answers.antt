@@ -1,0 +1,16 @@
+use Rattle.std.proofs.Common.{◌≡◌, ℕ, ◌+◌, ◌*◌, ◌^◌, ◌≤◌, rules}
+use Rattle.butterfly64.proofs.SumSizes.{of_size-within, size-down_sums, within-down_sums}
+use Rattle.butterfly64.proofs.InPlace.{mirrored_sizes, down_of_mirrored}
+use Rattle.butterfly64.proofs.down_scalar.Goals as goal
+
+pub down_in_place-requires-clause-sizes : goal.down_in_place-requires-clause-sizes
+down_in_place-requires-clause-sizes c = of_size-within c.args.x.now c.requires
+
+pub returns-clause-sums : goal.returns-clause-sums
+returns-clause-sums c = down_of_mirrored c.args.x.now c.down_in_place.new.x c.in_mirror_order.result (search rules) (record { each = c.down_in_place.ensures }) c.in_mirror_order.ensures
+
+pub returns-clause-sizes : goal.returns-clause-sizes
+returns-clause-sizes c = rw (returns-clause-sums c) (size-down_sums c.args.x.now)
+
+pub returns-clause-within : goal.returns-clause-within
+returns-clause-within c = rw (returns-clause-sums c) (within-down_sums c.args.x.now c.requires)

@@ -1,0 +1,4 @@
+pub mod StagedSums
+pub mod PlainSums
+pub mod MirrorOrder
+pub mod Bounds

@@ -1,0 +1,146 @@
+//! The transform of 64 pairs, up and down, in staged whole numbers (own). No call takes memory.
+#![tactic(auto)]
+
+ghost use Rattle.std.specs.Prelude.{◌≡◌, ℕ, ◌+◌, ◌-◌, ◌*◌, ◌/◌, ◌^◌, ◌<◌, ◌≤◌, length};
+ghost use Rattle.fixed_complex.specs.Pairs.{IsWithin, IsOfSize, conjugate, plus, minus, scaled_product};
+ghost use Rattle.fixed_complex.specs.Turns.{turn_at};
+ghost use Rattle.butterfly64.specs.StagedSums.{entry, up_at, down_at, up_sums, down_sums};
+ghost use Rattle.butterfly64.specs.Bounds.{AreWithin, AreOfSize};
+ghost use Rattle.butterfly64.specs.MirrorOrder.{mirror_of};
+
+use fixed_complex::{add, conj, scaled, sub, turn, Cx};
+
+/// The staged sums `up` of 64 pairs whose components are at most 2^30 in size: at place n about the sum over c of
+/// x(c) * T[c*n] / 2^20, rounded at each of six joins (own). Takes no memory.
+pub fn up_scalar(x: &[Cx; 64]) -> [Cx; 64]
+    requires { AreWithin (2 ^ 30) x.now }
+    ensures sums { result ≡ up_sums x.now }
+    ensures sizes { (a : ℕ) → a ≤ 2 ^ 31 → AreOfSize a x.now → AreOfSize (65 * a + 256) result }
+    ensures within { AreWithin (2 ^ 40 - 1) result }
+{
+    let mut sums = in_mirror_order(x);
+    up_in_place(&mut sums, 6);
+    sums
+}
+
+/// The staged sums `down` of 64 pairs whose components are at most 2^30 in size: at place c about the sum over n of
+/// x(n) * conj T[c*n] / 2^20, rounded at each of six joins (own). Takes no memory.
+pub fn down_scalar(x: &[Cx; 64]) -> [Cx; 64]
+    requires { AreWithin (2 ^ 30) x.now }
+    ensures sums { result ≡ down_sums x.now }
+    ensures sizes { (a : ℕ) → a ≤ 2 ^ 31 → AreOfSize a x.now → AreOfSize (65 * a + 256) result }
+    ensures within { AreWithin (2 ^ 40 - 1) result }
+{
+    let mut sums = *x;
+    down_in_place(&mut sums, 6);
+    in_mirror_order(&sums)
+}
+
+// The pairs in mirror order.
+fn in_mirror_order(x: &[Cx; 64]) -> [Cx; 64]
+    ensures { (n : ℕ) → n < 64 → entry result n ≡ entry x.now (mirror_of 6 n) }
+{
+    let mut mirrored = *x;
+    for n in 0..64 {
+        mirrored[n] = x[mirror(n)];
+    }
+    mirrored
+}
+
+// The place that a place's six bits name in backward order.
+fn mirror(place: usize) -> usize
+    requires { place < 64 }
+    ensures value { result ≡ mirror_of 6 place }
+    ensures place { result < 64 }
+{
+    (place as u8).reverse_bits() as usize >> 2
+}
+
+// Replaces 2^level pairs in mirror order by their staged sums `up`.
+fn up_in_place(x: &mut [Cx], level: usize)
+    requires level { level ≤ 6 }
+    requires length { length x.old ≡ 2 ^ level }
+    requires sizes { AreOfSize (2 ^ 31) x.old }
+    ensures { (n : ℕ) → n < 2 ^ level → entry x.new n ≡ up_at level (λ m. entry x.old (mirror_of level m)) n }
+{
+    if level > 0 {
+        let half = x.len() / 2;
+        let (evens, odds) = x.split_at_mut(half);
+        up_in_place(evens, level - 1);
+        up_in_place(odds, level - 1);
+        join(evens, odds, 32 / half);
+    }
+}
+
+// Replaces 2^level pairs by their staged sums `down` in mirror order.
+fn down_in_place(x: &mut [Cx], level: usize)
+    requires level { level ≤ 6 }
+    requires length { length x.old ≡ 2 ^ level }
+    requires sizes { AreOfSize (2 ^ 31 * 3 ^ (6 - level)) x.old }
+    ensures { (n : ℕ) → n < 2 ^ level → entry x.new (mirror_of level n) ≡ down_at level (entry x.old) n }
+{
+    if level > 0 {
+        let half = x.len() / 2;
+        let (first, last) = x.split_at_mut(half);
+        part(first, last, 32 / half);
+        down_in_place(first, level - 1);
+        down_in_place(last, level - 1);
+    }
+}
+
+// Joins the sums of the even places with those of the odd ones.
+fn join(evens: &mut [Cx], odds: &mut [Cx], step: usize)
+    requires lengths { length evens.old ≡ length odds.old }
+    requires step { step * length evens.old ≤ 64 }
+    requires evens { AreOfSize (2 ^ 39) evens.old }
+    requires odds { AreOfSize (2 ^ 39) odds.old }
+    ensures first { (j : ℕ) → j < length evens.old → entry evens.new j
+        ≡ plus (entry evens.old j) (scaled_product (turn_at (step * j)) (entry odds.old j)) }
+    ensures last { (j : ℕ) → j < length odds.old → entry odds.new j
+        ≡ minus (entry evens.old j) (scaled_product (turn_at (step * j)) (entry odds.old j)) }
+{
+    for j in 0..evens.len() {
+        let (sum, difference) = joined(evens[j], odds[j], step * j);
+        evens[j] = sum;
+        odds[j] = difference;
+    }
+}
+
+// Parts two halves into their sums and their differences, turned back.
+fn part(first: &mut [Cx], last: &mut [Cx], step: usize)
+    requires lengths { length first.old ≡ length last.old }
+    requires step { step * length first.old ≤ 64 }
+    requires first { AreOfSize (2 ^ 39) first.old }
+    requires last { AreOfSize (2 ^ 39) last.old }
+    ensures sums { (j : ℕ) → j < length first.old → entry first.new j
+        ≡ plus (entry first.old j) (entry last.old j) }
+    ensures differences { (j : ℕ) → j < length last.old → entry last.new j
+        ≡ scaled_product (conjugate (turn_at (step * j))) (minus (entry first.old j) (entry last.old j)) }
+{
+    for j in 0..first.len() {
+        let (sum, difference) = parted(first[j], last[j], step * j);
+        first[j] = sum;
+        last[j] = difference;
+    }
+}
+
+// The sum and the difference of a pair and the m-th turn of another.
+fn joined(even: Cx, odd: Cx, m: usize) -> (Cx, Cx)
+    requires even { IsOfSize (2 ^ 39) even }
+    requires odd { IsOfSize (2 ^ 39) odd }
+    ensures sum { result.0 ≡ plus even (scaled_product (turn_at m) odd) }
+    ensures difference { result.1 ≡ minus even (scaled_product (turn_at m) odd) }
+{
+    let turned = scaled(turn(m), odd);
+    (add(even, turned), sub(even, turned))
+}
+
+// The sum of two pairs, and their difference turned back by the m-th turn.
+fn parted(first: Cx, last: Cx, m: usize) -> (Cx, Cx)
+    requires first { IsOfSize (2 ^ 39) first }
+    requires last { IsOfSize (2 ^ 39) last }
+    ensures sum { result.0 ≡ plus first last }
+    ensures difference { result.1 ≡ scaled_product (conjugate (turn_at m)) (minus first last) }
+{
+    (add(first, last), scaled(conj(turn(m)), sub(first, last)))
+}
