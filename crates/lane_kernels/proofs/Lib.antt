@@ -1,1 +1,3 @@
 pub mod LaneSums
+pub mod Totals
+pub mod Parts

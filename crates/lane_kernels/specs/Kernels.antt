@@ -10,11 +10,15 @@ use Rattle.fixed_complex.specs.Pairs.{conjugate, plus, times, zero_pair}
 abbrev pub pair_of : Sample → Cx
 pair_of sample = record { re = sample.i; im = sample.q }
 
+-- the product of a sample with the conjugate of another
+abbrev pub product_of : Sample → Sample → Cx
+product_of x y = times (pair_of x) (conjugate (pair_of y))
+
 -- the sum of the products of the one list's samples with the conjugates of the other's, place by place
 unfoldable pub dot_of : List Sample → List Sample → Cx
 dot_of [] ys = zero_pair
 dot_of (x ∷ xs) [] = zero_pair
-dot_of (x ∷ xs) (y ∷ ys) = plus (times (pair_of x) (conjugate (pair_of y))) (dot_of xs ys)
+dot_of (x ∷ xs) (y ∷ ys) = plus (product_of x y) (dot_of xs ys)
 
 -- the square of a sample's size
 abbrev pub power_of : Sample → ℤ

@@ -1,5 +1,5 @@
--- Lists as the lanes read them (own).
-use Rattle.std.specs.Prelude.{ℕ, List, [], ◌∷◌, slice_index_or, ℤ, pos}
+-- Lists as the lanes read them, and sums by place (own).
+use Rattle.std.specs.Prelude.{ℕ, zero, suc, ◌≤◌, List, [], ◌∷◌, slice_index_or, fold, ℤ, pos, ◌+ℤ◌, unsigned_abs}
 use Rattle.fixed_complex.specs.declared.Sample.{Sample}
 
 -- the number at a place of a list, and 0 past its end
@@ -13,3 +13,16 @@ sample_at samples n = slice_index_or samples n (record { i = pos 0; q = pos 0 })
 -- one entry for each of eight lanes
 abbrev pub eight : {X : Type 0} → (ℕ → X) → List X
 eight f = f 0 ∷ f 1 ∷ f 2 ∷ f 3 ∷ f 4 ∷ f 5 ∷ f 6 ∷ f 7 ∷ []
+
+-- each number is at most so large in size
+abbrev pub AreWithin : ℕ → List ℤ → Type 0
+AreWithin bound numbers = (n : ℕ) → unsigned_abs (number_at numbers n) ≤ bound
+
+-- the sum of a list
+abbrev pub total_of : List ℤ → ℤ
+total_of = fold ◌+ℤ◌ (pos 0)
+
+-- the sum of the numbers at the places below a number
+unfoldable pub total_below : ℕ → (ℕ → ℤ) → ℤ
+total_below zero f = pos 0
+total_below (suc n) f = total_below n f +ℤ f n
