@@ -1,3 +1,4 @@
 pub mod LaneSums
 pub mod Totals
 pub mod Parts
+pub mod Wholes
