@@ -2,3 +2,5 @@ pub mod LaneSums
 pub mod Totals
 pub mod Parts
 pub mod Wholes
+pub mod Widening
+pub mod ByteMasks

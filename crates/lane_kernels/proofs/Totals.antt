@@ -12,21 +12,22 @@ eight-same f g h =
     let h4 = h 4 (omega arith) in let h5 = h 5 (omega arith) in let h6 = h 6 (omega arith) in let h7 = h 7 (omega arith) in
     cc
 
--- and within a bound where each of them is
-pub eight-of-within : (f : ℕ → ℤ) (bound : ℕ) → unsigned_abs (f 0) ≤ bound → unsigned_abs (f 1) ≤ bound → unsigned_abs (f 2) ≤ bound → unsigned_abs (f 3) ≤ bound → unsigned_abs (f 4) ≤ bound → unsigned_abs (f 5) ≤ bound → unsigned_abs (f 6) ≤ bound → unsigned_abs (f 7) ≤ bound → AreWithin bound (eight f)
-eight-of-within f bound h0 h1 h2 h3 h4 h5 h6 h7 zero = h0
-eight-of-within f bound h0 h1 h2 h3 h4 h5 h6 h7 (suc zero) = h1
-eight-of-within f bound h0 h1 h2 h3 h4 h5 h6 h7 (suc (suc zero)) = h2
-eight-of-within f bound h0 h1 h2 h3 h4 h5 h6 h7 (suc (suc (suc zero))) = h3
-eight-of-within f bound h0 h1 h2 h3 h4 h5 h6 h7 (suc (suc (suc (suc zero)))) = h4
-eight-of-within f bound h0 h1 h2 h3 h4 h5 h6 h7 (suc (suc (suc (suc (suc zero))))) = h5
-eight-of-within f bound h0 h1 h2 h3 h4 h5 h6 h7 (suc (suc (suc (suc (suc (suc zero)))))) = h6
-eight-of-within f bound h0 h1 h2 h3 h4 h5 h6 h7 (suc (suc (suc (suc (suc (suc (suc zero))))))) = h7
-eight-of-within f bound h0 h1 h2 h3 h4 h5 h6 h7 (suc (suc (suc (suc (suc (suc (suc (suc n)))))))) = omega arith
+-- what holds of each of them and of 0 holds at every place
+pub eight-each : (P : ℤ → Type 0) (f : ℕ → ℤ) → P (f 0) → P (f 1) → P (f 2) → P (f 3) → P (f 4) → P (f 5) → P (f 6) → P (f 7) → P (pos 0) → (n : ℕ) → P (number_at (eight f) n)
+eight-each P f h0 h1 h2 h3 h4 h5 h6 h7 none zero = h0
+eight-each P f h0 h1 h2 h3 h4 h5 h6 h7 none (suc zero) = h1
+eight-each P f h0 h1 h2 h3 h4 h5 h6 h7 none (suc (suc zero)) = h2
+eight-each P f h0 h1 h2 h3 h4 h5 h6 h7 none (suc (suc (suc zero))) = h3
+eight-each P f h0 h1 h2 h3 h4 h5 h6 h7 none (suc (suc (suc (suc zero)))) = h4
+eight-each P f h0 h1 h2 h3 h4 h5 h6 h7 none (suc (suc (suc (suc (suc zero))))) = h5
+eight-each P f h0 h1 h2 h3 h4 h5 h6 h7 none (suc (suc (suc (suc (suc (suc zero)))))) = h6
+eight-each P f h0 h1 h2 h3 h4 h5 h6 h7 none (suc (suc (suc (suc (suc (suc (suc zero))))))) = h7
+eight-each P f h0 h1 h2 h3 h4 h5 h6 h7 none (suc (suc (suc (suc (suc (suc (suc (suc n)))))))) = none
 
+-- so they are within a bound where each of them is
 pub eight-within : (f : ℕ → ℤ) (bound : ℕ) → ((n : ℕ) → n < 8 → unsigned_abs (f n) ≤ bound) → AreWithin bound (eight f)
 eight-within f bound h =
-    eight-of-within f bound (h 0 (omega arith)) (h 1 (omega arith)) (h 2 (omega arith)) (h 3 (omega arith)) (h 4 (omega arith)) (h 5 (omega arith)) (h 6 (omega arith)) (h 7 (omega arith))
+    eight-each (λ z. unsigned_abs z ≤ bound) f (h 0 (omega arith)) (h 1 (omega arith)) (h 2 (omega arith)) (h 3 (omega arith)) (h 4 (omega arith)) (h 5 (omega arith)) (h 6 (omega arith)) (h 7 (omega arith)) (omega arith)
 
 -- a product more or less, in each lane
 pub grown : (sums x y new : List ℤ) (bound : ℕ) → new ≡ eight (λ n. number_at sums n +ℤ number_at x n *ℤ number_at y n) → AreWithin bound sums → AreWithin (2 ^ 15) x → AreWithin (2 ^ 15) y → AreWithin (bound + 2 ^ 30) new

@@ -2,10 +2,10 @@
 //! have at most 2^24 entries. No call takes memory.
 #![tactic(auto)]
 
-ghost use Rattle.std.specs.Prelude.{◌≡◌, ℕ, ◌+◌, ◌*◌, ◌/◌, ◌^◌, ◌<◌, ◌≤◌, length, ℤ, pos, ◌+ℤ◌, ◌-ℤ◌, ◌*ℤ◌, unsigned_abs};
+ghost use Rattle.std.specs.Prelude.{◌≡◌, ℕ, ◌+◌, ◌*◌, ◌/◌, ◌^◌, ◌<◌, ◌≤◌, false, length, take, nat_lt, ℤ, pos, ◌+ℤ◌, ◌-ℤ◌, ◌*ℤ◌, unsigned_abs};
 ghost use Rattle.fixed_complex.specs.Pairs.{IsWithin};
 ghost use Rattle.lane_kernels.specs.Kernels.{differences_of, dot_of, energy_of, first_loud_of, held_sums, is_loud, pair_of, power_of, product_of};
-ghost use Rattle.lane_kernels.specs.Lanes.{AreWithin, eight, number_at, sample_at, total_below, total_of};
+ghost use Rattle.lane_kernels.specs.Lanes.{AreOf16Bits, AreWithin, eight, number_at, sample_at, total_below, total_of};
 
 use fixed_complex::{Cx, Sample, add, conj, mul};
 use std::simd::prelude::*;
@@ -37,6 +37,102 @@ pub fn energy(a: &[Sample]) -> i64
         energy += power(a[n]);
     }
     energy
+}
+
+/// The least place of a loud sample, one with a component larger than 256 in size, or the length (own).
+pub fn first_loud(a: &[Sample]) -> usize
+    requires { length a.now ≤ 2 ^ 24 }
+    ensures { result ≡ first_loud_of a.now }
+{
+    for n in 8 * quiet_chunks(a)..a.len() {
+        if is_loud(a[n]) {
+            return n;
+        }
+    }
+    a.len()
+}
+
+/// How many places of two equally long slices differ (own).
+pub fn differences(a: &[u8], b: &[u8]) -> usize
+    requires short { length a.now ≤ 2 ^ 24 }
+    requires long { length a.now ≡ length b.now }
+    ensures { result ≡ differences_of a.now b.now }
+{
+    let mut differences = lane_differences(a, b);
+    for n in a.len() / 16 * 16..a.len() {
+        if a[n] != b[n] {
+            differences += 1;
+        }
+    }
+    differences
+}
+
+// How many whole chunks at the front have no loud sample.
+fn quiet_chunks(a: &[Sample]) -> usize
+    requires { length a.now ≤ 2 ^ 24 }
+    ensures within { 8 * result ≤ length a.now }
+    ensures quiet { (n : ℕ) → n < 8 * result → is_loud (sample_at a.now n) ≡ false }
+{
+    for k in 0..a.len() / 8 {
+        if any_loud(&a[8 * k..8 * k + 8]) {
+            return k;
+        }
+    }
+    a.len() / 8
+}
+
+// Whether one of eight samples is loud.
+fn any_loud(a: &[Sample]) -> bool
+    requires { length a.now ≡ 8 }
+    ensures { result ≡ false → (n : ℕ) → n < 8 → is_loud (sample_at a.now n) ≡ false }
+{
+    any_large(i_components(a)) || any_large(q_components(a))
+}
+
+// Whether one of eight numbers is larger than 256 in size.
+fn any_large(x: [i16; 8]) -> bool
+    requires { AreOf16Bits x }
+    ensures { result ≡ false → (n : ℕ) → nat_lt 256 (unsigned_abs (number_at x n)) ≡ false }
+{
+    let x = i16x8::from_array(x);
+    let above = x.simd_gt(i16x8::splat(256)).to_bitmask();
+    let below = x.simd_lt(i16x8::splat(-256)).to_bitmask();
+    above != 0 || below != 0
+}
+
+// Whether a sample is loud.
+fn is_loud(sample: Sample) -> bool
+    ensures { result ≡ is_loud sample }
+{
+    sample.i.unsigned_abs() > 256 || sample.q.unsigned_abs() > 256
+}
+
+// How many places of the whole chunks differ.
+fn lane_differences(a: &[u8], b: &[u8]) -> usize
+    requires short { length a.now ≤ 2 ^ 24 }
+    requires long { length a.now ≡ length b.now }
+    ensures count { result
+        ≡ differences_of (take (length a.now / 16 * 16) a.now) (take (length a.now / 16 * 16) b.now) }
+    ensures within { result ≤ length a.now }
+{
+    let mut differences = 0;
+    for k in 0..a.len() / 16 {
+        differences += differing(&a[16 * k..16 * k + 16], &b[16 * k..16 * k + 16]) as usize;
+    }
+    differences
+}
+
+// How many of sixteen places differ.
+fn differing(a: &[u8], b: &[u8]) -> u32
+    requires a { length a.now ≡ 16 }
+    requires b { length b.now ≡ 16 }
+    ensures count { result ≡ differences_of a.now b.now }
+    ensures within { result ≤ 16 }
+{
+    u8x16::from_slice(a)
+        .simd_ne(u8x16::from_slice(b))
+        .to_bitmask()
+        .count_ones()
 }
 
 // The square of a sample's size.
@@ -156,24 +252,49 @@ fn add_powers(sums: [i64; 8], a: &[Sample]) -> [i64; 8]
     add_products(sums, q, q)
 }
 
-// The I components of eight samples.
+// The I components of eight samples, as wide as sums of products need.
 fn in_phase(a: &[Sample]) -> [i64; 8]
     requires { length a.now ≡ 8 }
     ensures value { result ≡ eight (λ n. (sample_at a.now n).i) }
     ensures within { AreWithin (2 ^ 15) result }
 {
-    let i = [a[0].i, a[1].i, a[2].i, a[3].i, a[4].i, a[5].i, a[6].i, a[7].i];
-    i16x8::from_array(i).cast::<i64>().to_array()
+    widened(i_components(a))
 }
 
-// The Q components of eight samples.
+// The Q components of eight samples, as wide as sums of products need.
 fn quadrature(a: &[Sample]) -> [i64; 8]
     requires { length a.now ≡ 8 }
     ensures value { result ≡ eight (λ n. (sample_at a.now n).q) }
     ensures within { AreWithin (2 ^ 15) result }
 {
-    let q = [a[0].q, a[1].q, a[2].q, a[3].q, a[4].q, a[5].q, a[6].q, a[7].q];
-    i16x8::from_array(q).cast::<i64>().to_array()
+    widened(q_components(a))
+}
+
+// The I components of eight samples.
+fn i_components(a: &[Sample]) -> [i16; 8]
+    requires { length a.now ≡ 8 }
+    ensures value { result ≡ eight (λ n. (sample_at a.now n).i) }
+    ensures of_16_bits { AreOf16Bits result }
+{
+    [a[0].i, a[1].i, a[2].i, a[3].i, a[4].i, a[5].i, a[6].i, a[7].i]
+}
+
+// The Q components of eight samples.
+fn q_components(a: &[Sample]) -> [i16; 8]
+    requires { length a.now ≡ 8 }
+    ensures value { result ≡ eight (λ n. (sample_at a.now n).q) }
+    ensures of_16_bits { AreOf16Bits result }
+{
+    [a[0].q, a[1].q, a[2].q, a[3].q, a[4].q, a[5].q, a[6].q, a[7].q]
+}
+
+// Eight numbers, wider.
+fn widened(x: [i16; 8]) -> [i64; 8]
+    requires { AreOf16Bits x }
+    ensures value { result ≡ x }
+    ensures within { AreWithin (2 ^ 15) result }
+{
+    i16x8::from_array(x).cast::<i64>().to_array()
 }
 
 // Eight sums, each with a product more.
