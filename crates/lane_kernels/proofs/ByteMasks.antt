@@ -1,10 +1,11 @@
 -- Counting the bytes that differ by a mask of lanes.
-use Rattle.std.proofs.Common.{◌≡◌, ℕ, zero, suc, ◌+◌, ◌%◌, ◌^◌, ◌≤◌, List, [], ◌∷◌, map, length, take, cond, Bool, true, false, not, eqb, w8, refl, ap, sym, ◌∙◌, arith}
-use Rattle.std.specs.Prelude.{count_ones}
+use Rattle.std.proofs.Common.{◌≡◌, ℕ, zero, suc, ◌+◌, ◌%◌, ◌^◌, ◌<◌, ◌≤◌, List, [], ◌∷◌, map, ◌++◌, ◌-◌, length, take, drop, length-take, cond, Bool, true, false, not, eqb, get_or, w8, refl, ap, sym, ◌∙◌, arith}
+use Rattle.std.specs.Prelude.{count_ones, if◌then◌else◌, ◌==◌}
 use Rattle.std.specs.Simd.Lanes.{zip2, mask_l, top}
 use Rattle.std.proofs.lemmas.Simd.{ones-mask_l_cons, mask_l-mod, length-zip2}
 use Rattle.std.proofs.lemmas.List.{length-map}
-use Rattle.std.proofs.Math.Seq.{take-length}
+use Rattle.std.proofs.Math.Seq.{drop-cons, take-add, take-length}
+use Rattle.std.specs.List.{slice_range}
 use borrow.Rule.Simd.Lanes.{act2}
 use borrow.Table.Row.{s_int}
 use mir.Syntax.{mask, ne}
@@ -46,3 +47,33 @@ mask_counts xs ys h short =
 -- a list up to its length
 pub take-whole : (xs : List ℕ) (n : ℕ) → length xs ≡ n → take n xs ≡ xs
 take-whole xs n e = ap (λ k. take k xs) (sym e) ∙ take-length xs
+
+-- one list behind another
+differences-append : (xs ys us vs : List ℕ) → length xs ≡ length ys → differences_of (xs ++ us) (ys ++ vs) ≡ differences_of xs ys + differences_of us vs
+unfolding differences_of
+differences-append [] [] us vs h = omega arith
+differences-append [] (y ∷ ys) us vs h = absurd (omega arith)
+differences-append (x ∷ xs) [] us vs h = absurd (omega arith)
+differences-append (x ∷ xs) (y ∷ ys) us vs h = omega (arith, differences-append xs ys us vs (omega arith))
+
+-- so many places more
+pub differences-more : (xs ys : List ℕ) (i m j : ℕ) → j ≡ i + m → length xs ≡ length ys → differences_of (take j xs) (take j ys) ≡ differences_of (take i xs) (take i ys) + differences_of (slice_range xs i j) (slice_range ys i j)
+differences-more xs ys i m j e h =
+    let many : j - i ≡ m = omega arith in
+    rw (e, take-add i m xs, take-add i m ys)
+    (rw (← e) (rw many (differences-append (take i xs) (take i ys) (take m (drop i xs)) (take m (drop i ys)) (omega (arith, length-take i xs, length-take i ys)))))
+
+-- no place yet
+pub differences-none : 0 ≡ differences_of [] []
+unfolding differences_of
+differences-none = refl
+
+-- one place more
+pub differences-one : (xs ys : List ℕ) (n : ℕ) → n < length xs → length xs ≡ length ys → differences_of (take (n + 1) xs) (take (n + 1) ys) ≡ differences_of (take n xs) (take n ys) + (if get_or xs n 0 == get_or ys n 0 then 0 else 1)
+unfolding differences_of
+differences-one xs ys n below h =
+    let x = drop-cons xs n 0 below in
+    let y = drop-cons ys n 0 (omega arith) in
+    let one : (n + 1) - n ≡ 1 = omega arith in
+    let more = differences-more xs ys n 1 (n + 1) refl h in
+    omega (arith, rw (one, x, y) at more)

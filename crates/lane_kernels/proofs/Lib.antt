@@ -4,3 +4,4 @@ pub mod Parts
 pub mod Wholes
 pub mod Widening
 pub mod ByteMasks
+pub mod Scans

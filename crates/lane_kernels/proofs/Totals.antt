@@ -24,6 +24,18 @@ eight-each P f h0 h1 h2 h3 h4 h5 h6 h7 none (suc (suc (suc (suc (suc (suc zero))
 eight-each P f h0 h1 h2 h3 h4 h5 h6 h7 none (suc (suc (suc (suc (suc (suc (suc zero))))))) = h7
 eight-each P f h0 h1 h2 h3 h4 h5 h6 h7 none (suc (suc (suc (suc (suc (suc (suc (suc n)))))))) = none
 
+-- each of them stands at its place
+pub eight-at : (f : ℕ → ℤ) (n : ℕ) → n < 8 → number_at (eight f) n ≡ f n
+eight-at f zero h = refl
+eight-at f (suc zero) h = refl
+eight-at f (suc (suc zero)) h = refl
+eight-at f (suc (suc (suc zero))) h = refl
+eight-at f (suc (suc (suc (suc zero)))) h = refl
+eight-at f (suc (suc (suc (suc (suc zero))))) h = refl
+eight-at f (suc (suc (suc (suc (suc (suc zero)))))) h = refl
+eight-at f (suc (suc (suc (suc (suc (suc (suc zero))))))) h = refl
+eight-at f (suc (suc (suc (suc (suc (suc (suc (suc n)))))))) h = absurd (omega arith)
+
 -- so they are within a bound where each of them is
 pub eight-within : (f : ℕ → ℤ) (bound : ℕ) → ((n : ℕ) → n < 8 → unsigned_abs (f n) ≤ bound) → AreWithin bound (eight f)
 eight-within f bound h =

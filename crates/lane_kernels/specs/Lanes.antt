@@ -1,6 +1,7 @@
 -- Lists as the lanes read them, and sums by place (own).
-use Rattle.std.specs.Prelude.{ℕ, zero, suc, ◌≤◌, List, [], ◌∷◌, slice_index_or, fold, ℤ, pos, neg_ℤ, ◌+ℤ◌, ◌≤ℤ◌, unsigned_abs}
+use Rattle.std.specs.Prelude.{◌≡◌, ℕ, zero, suc, ◌<◌, ◌≤◌, List, [], ◌∷◌, slice_index_or, fold, ℤ, pos, neg_ℤ, ◌+ℤ◌, ◌≤ℤ◌, unsigned_abs}
 use Rattle.fixed_complex.specs.declared.Sample.{Sample}
+use Rattle.lane_kernels.specs.Kernels.{held_sum}
 
 -- the number at a place of a list, and 0 past its end
 abbrev pub number_at : List ℤ → ℕ → ℤ
@@ -35,3 +36,9 @@ total_of = fold ◌+ℤ◌ (pos 0)
 unfoldable pub total_below : ℕ → (ℕ → ℤ) → ℤ
 total_below zero f = pos 0
 total_below (suc n) f = total_below n f +ℤ f n
+
+-- from one place up to another the samples are the held sums of what was there and of b, and all others stay
+pub record HoldsSums (from upto : ℕ) (old b new : List Sample) : Type 0 where
+  pub before : (n : ℕ) → n < from → sample_at new n ≡ sample_at old n
+  pub within : (n : ℕ) → from ≤ n → n < upto → sample_at new n ≡ held_sum (sample_at old n) (sample_at b n)
+  pub behind : (n : ℕ) → upto ≤ n → sample_at new n ≡ sample_at old n

@@ -4,8 +4,8 @@
 
 ghost use Rattle.std.specs.Prelude.{◌≡◌, ℕ, ◌+◌, ◌*◌, ◌/◌, ◌^◌, ◌<◌, ◌≤◌, false, length, take, nat_lt, ℤ, pos, ◌+ℤ◌, ◌-ℤ◌, ◌*ℤ◌, unsigned_abs};
 ghost use Rattle.fixed_complex.specs.Pairs.{IsWithin};
-ghost use Rattle.lane_kernels.specs.Kernels.{differences_of, dot_of, energy_of, first_loud_of, held_sums, is_loud, pair_of, power_of, product_of};
-ghost use Rattle.lane_kernels.specs.Lanes.{AreOf16Bits, AreWithin, eight, number_at, sample_at, total_below, total_of};
+ghost use Rattle.lane_kernels.specs.Kernels.{differences_of, dot_of, energy_of, first_loud_of, held_sums, held, is_loud, pair_of, power_of, product_of};
+ghost use Rattle.lane_kernels.specs.Lanes.{AreOf16Bits, AreWithin, eight, number_at, sample_at, HoldsSums, total_below, total_of};
 
 use fixed_complex::{Cx, Sample, add, conj, mul};
 use std::simd::prelude::*;
@@ -100,6 +100,31 @@ fn any_large(x: [i16; 8]) -> bool
     above != 0 || below != 0
 }
 
+// Adds eight samples from a place on.
+fn add_eight(a: &mut [Sample], b: &[Sample], at: usize)
+    requires within { at + 8 ≤ length a.old }
+    requires long { length a.old ≡ length b.now }
+    ensures held { HoldsSums at (at + 8) a.old b.now a.new }
+    ensures len { length a.new ≡ length a.old }
+{
+    let i = add_lanes(i_components(&a[at..at + 8]), i_components(&b[at..at + 8]));
+    let q = add_lanes(q_components(&a[at..at + 8]), q_components(&b[at..at + 8]));
+    for n in 0..8 {
+        a[at + n] = Sample { i: i[n], q: q[n] };
+    }
+}
+
+// The sums of eight numbers, each held within 16 bits.
+fn add_lanes(x: [i16; 8], y: [i16; 8]) -> [i16; 8]
+    requires x { AreOf16Bits x }
+    requires y { AreOf16Bits y }
+    ensures { result ≡ eight (λ n. held (number_at x n +ℤ number_at y n)) }
+{
+    let (x, y) = (i16x8::from_array(x).cast::<i32>(), i16x8::from_array(y).cast::<i32>());
+    let (least, most) = (i32x8::splat(-32768), i32x8::splat(32767));
+    x.strict_add(y).simd_min(most).simd_max(least).cast::<i16>().to_array()
+}
+
 // Whether a sample is loud.
 fn is_loud(sample: Sample) -> bool
     ensures { result ≡ is_loud sample }
@@ -113,7 +138,7 @@ fn lane_differences(a: &[u8], b: &[u8]) -> usize
     requires long { length a.now ≡ length b.now }
     ensures count { result
         ≡ differences_of (take (length a.now / 16 * 16) a.now) (take (length a.now / 16 * 16) b.now) }
-    ensures within { result ≤ length a.now }
+    ensures within { result ≤ length a.now / 16 * 16 }
 {
     let mut differences = 0;
     for k in 0..a.len() / 16 {
