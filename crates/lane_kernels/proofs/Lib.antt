@@ -5,3 +5,4 @@ pub mod Wholes
 pub mod Widening
 pub mod ByteMasks
 pub mod Scans
+pub mod Holding
