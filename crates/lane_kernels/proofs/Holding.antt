@@ -57,7 +57,7 @@ held_lane-is s v is =
       rw (picked (int_lt (to_z w32 s) (pos 32767)), to_z-cond (int_lt (to_z w32 s) (pos 32767)) s 32767, is) (lesser v) in
     rw (picked (int_lt (to_z w32 (least_lane s)) (negsuc 32767)), to_z-cond (int_lt (to_z w32 (least_lane s)) (negsuc 32767)) 4294934528 (least_lane s), low) refl
 
-held-fits : (v : ℤ) → FitsSigned w16 (held v)
+pub held-fits : (v : ℤ) → FitsSigned w16 (held v)
 held-fits v = omega (arith, ints, clamps)
 
 -- the bits of a sum

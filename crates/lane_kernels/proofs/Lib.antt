@@ -6,3 +6,4 @@ pub mod Widening
 pub mod ByteMasks
 pub mod Scans
 pub mod Holding
+pub mod Storing

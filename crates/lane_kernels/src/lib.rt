@@ -4,8 +4,8 @@
 
 ghost use Rattle.std.specs.Prelude.{◌≡◌, ℕ, ◌+◌, ◌*◌, ◌/◌, ◌^◌, ◌<◌, ◌≤◌, false, length, take, nat_lt, ℤ, pos, ◌+ℤ◌, ◌-ℤ◌, ◌*ℤ◌, unsigned_abs};
 ghost use Rattle.fixed_complex.specs.Pairs.{IsWithin};
-ghost use Rattle.lane_kernels.specs.Kernels.{differences_of, dot_of, energy_of, first_loud_of, held_sums, held, is_loud, pair_of, power_of, product_of};
-ghost use Rattle.lane_kernels.specs.Lanes.{AreOf16Bits, AreWithin, eight, number_at, sample_at, HoldsSums, total_below, total_of};
+ghost use Rattle.lane_kernels.specs.Kernels.{differences_of, dot_of, energy_of, first_loud_of, held, held_sum, held_sums, is_loud, pair_of, power_of, product_of};
+ghost use Rattle.lane_kernels.specs.Lanes.{AreOf16Bits, AreWithin, HoldsSums, eight, number_at, sample_at, total_below, total_of};
 
 use fixed_complex::{Cx, Sample, add, conj, mul};
 use std::simd::prelude::*;
@@ -50,6 +50,19 @@ pub fn first_loud(a: &[Sample]) -> usize
         }
     }
     a.len()
+}
+
+/// Adds `b`'s samples to `a`'s, each component held within -32768 to 32767. The slices are equally long (own).
+pub fn add_saturating(a: &mut [Sample], b: &[Sample])
+    requires short { length a.old ≤ 2 ^ 24 }
+    requires long { length a.old ≡ length b.now }
+    ensures { a.new ≡ held_sums a.old b.now }
+{
+    let whole = a.len() / 8;
+    for k in 0..whole {
+        add_eight(a, b, 8 * k);
+    }
+    add_rest(a, b, 8 * whole);
 }
 
 /// How many places of two equally long slices differ (own).
@@ -100,11 +113,33 @@ fn any_large(x: [i16; 8]) -> bool
     above != 0 || below != 0
 }
 
+// Adds the samples from a place on.
+fn add_rest(a: &mut [Sample], b: &[Sample], from: usize)
+    requires within { from ≤ length a.old }
+    requires long { length a.old ≡ length b.now }
+    ensures sums { HoldsSums from (length a.old) a.old b.now a.new }
+    ensures len { length a.new ≡ length a.old }
+{
+    for n in from..a.len() {
+        a[n] = held_sum(a[n], b[n]);
+    }
+}
+
+// The sum of two samples, each component held.
+fn held_sum(a: Sample, b: Sample) -> Sample
+    ensures { result ≡ held_sum a b }
+{
+    Sample {
+        i: a.i.saturating_add(b.i),
+        q: a.q.saturating_add(b.q),
+    }
+}
+
 // Adds eight samples from a place on.
 fn add_eight(a: &mut [Sample], b: &[Sample], at: usize)
     requires within { at + 8 ≤ length a.old }
     requires long { length a.old ≡ length b.now }
-    ensures held { HoldsSums at (at + 8) a.old b.now a.new }
+    ensures sums { HoldsSums at (at + 8) a.old b.now a.new }
     ensures len { length a.new ≡ length a.old }
 {
     let i = add_lanes(i_components(&a[at..at + 8]), i_components(&b[at..at + 8]));
