@@ -10,11 +10,15 @@ use Rattle.fixed_complex.specs.Pairs.{conjugate, plus, times, zero_pair}
 abbrev pub pair_of : Sample → Cx
 pair_of sample = record { re = sample.i; im = sample.q }
 
+-- the product of a sample with the conjugate of another
+abbrev pub product_of : Sample → Sample → Cx
+product_of x y = times (pair_of x) (conjugate (pair_of y))
+
 -- the sum of the products of the one list's samples with the conjugates of the other's, place by place
 unfoldable pub dot_of : List Sample → List Sample → Cx
-dot_of [] bs = zero_pair
-dot_of (a ∷ as) [] = zero_pair
-dot_of (a ∷ as) (b ∷ bs) = plus (times (pair_of a) (conjugate (pair_of b))) (dot_of as bs)
+dot_of [] ys = zero_pair
+dot_of (x ∷ xs) [] = zero_pair
+dot_of (x ∷ xs) (y ∷ ys) = plus (product_of x y) (dot_of xs ys)
 
 -- the square of a sample's size
 abbrev pub power_of : Sample → ℤ
@@ -43,12 +47,12 @@ held_sum a b = record { i = held (a.i +ℤ b.i); q = held (a.q +ℤ b.q) }
 
 -- the held sums of two lists of samples, place by place
 unfoldable pub held_sums : List Sample → List Sample → List Sample
-held_sums [] bs = []
-held_sums (a ∷ as) [] = []
-held_sums (a ∷ as) (b ∷ bs) = held_sum a b ∷ held_sums as bs
+held_sums [] ys = []
+held_sums (x ∷ xs) [] = []
+held_sums (x ∷ xs) (y ∷ ys) = held_sum x y ∷ held_sums xs ys
 
 -- how many places of two lists of bytes differ
 unfoldable pub differences_of : List ℕ → List ℕ → ℕ
-differences_of [] bs = 0
-differences_of (a ∷ as) [] = 0
-differences_of (a ∷ as) (b ∷ bs) = (if a == b then 0 else 1) + differences_of as bs
+differences_of [] ys = 0
+differences_of (x ∷ xs) [] = 0
+differences_of (x ∷ xs) (y ∷ ys) = (if x == y then 0 else 1) + differences_of xs ys
