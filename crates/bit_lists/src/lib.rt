@@ -1,11 +1,16 @@
 //! Bits as lists: the bits of octets, and the text of bits.
 #![tactic(auto)]
 
-ghost use Rattle.std.specs.Prelude.{◌≡◌, ◌+◌, ◌*◌, ◌++◌, length, vec_len, IfOk, OnOk};
-ghost use Rattle.bit_lists.specs.Bits.{AreBits, bits_of_octet, bits_of_octets};
-ghost use Rattle.bit_lists.specs.Text.{text_of_bits};
+ghost use Rattle.std.specs.Prelude.{◌≡◌, ◌≢◌, ◌⊎◌, ℕ, List, [], ◌∷◌, ◌+◌, ◌*◌, ◌%◌, ◌^◌, ◌≤◌, ◌++◌, length, slice_index, vec_len, IfOk, OnOk, IsErrOf, IfSome, IfNone};
+ghost use Rattle.bit_lists.specs.Bits.{AreBits, AreOctets, IsBit, bits_of_octet, bits_of_octets, octet_at, octets_of_bits};
+ghost use Rattle.bit_lists.specs.Text.{IsBadPlace, IsCharacter, IsTextOf, text_of_bits};
+ghost use Rattle.bit_lists.specs.declared.TextFault.TheVariants.{NoMemory};
+ghost use Rattle.lane_kernels.specs.Kernels.{differences_of};
 
+use lane_kernels::differences;
 use std::alloc::{AllocError, Global};
+use std::marker::Model;
+use thiserror::Error;
 
 /// The bits of octets: eight bits per octet, least significant first (IEEE Std 802.11-2012, clause 18).
 /// The only error is want of memory.
@@ -35,6 +40,149 @@ pub fn put_text(alloc: Global, bits: &[u8]) -> Result<Vec<u8>, AllocError>
     Ok(text)
 }
 
+/// A list of octets. Contracts see it as the list (own).
+#[derive(Drop)]
+pub struct Octets {
+    items: Vec<u8>,
+}
+
+impl Model for Octets {
+    ghost use Rattle.std.specs.Prelude.{ℕ, List};
+
+    ghost Value = { List ℕ };
+
+    ghost view = { λ octets. octets.items.items };
+}
+
+impl Octets {
+    /// The octets of a vector, which it takes over. Takes no memory.
+    pub fn from_vec(items: Vec<u8>) -> Octets
+        ensures { result ≡ items.items }
+    {
+        Octets { items }
+    }
+
+    /// The octets, in order. Takes no memory.
+    pub fn as_slice(&self) -> &[u8]
+        ensures { result.now ≡ self.now }
+    {
+        self.items.as_slice()
+    }
+}
+
+/// The octets of bits, each 0 or 1, whose number is divisible by 8: one for every eight, the least significant bit
+/// first (IEEE Std 802.11-2012, clause 18). The only error is want of memory.
+pub fn bytes_of(alloc: Global, bits: &[u8]) -> Result<Octets, AllocError>
+    requires bits { AreBits bits.now }
+    requires whole { length bits.now % 8 ≡ 0 }
+    ensures value { IfOk result (λ octets. octets ≡ octets_of_bits bits.now) }
+    ensures has_bits { IfOk result (λ octets. bits_of_octets octets ≡ bits.now) }
+    ensures no_other { IfOk result (λ octets. (other : List ℕ) → AreOctets other
+        → bits_of_octets other ≡ bits.now → other ≡ octets) }
+{
+    let count = bits.len() / 8;
+    let mut items = Vec::with_capacity(alloc, count)?;
+    for k in 0..count {
+        items.push(octet_of(&bits[8 * k..8 * k + 8]))?;
+    }
+    Ok(Octets::from_vec(items))
+}
+
+// The octet of eight bits.
+fn octet_of(bits: &[u8]) -> u8
+    requires bits { AreBits bits.now }
+    requires eight { length bits.now ≡ 8 }
+    ensures { result ≡ octet_at bits.now 0 }
+{
+    bits[0]
+        + 2 * bits[1]
+        + 4 * bits[2]
+        + 8 * bits[3]
+        + 16 * bits[4]
+        + 32 * bits[5]
+        + 64 * bits[6]
+        + 128 * bits[7]
+}
+
+/// How many places of two equally long lists of at most 2^24 octets or bits differ (own). Takes no memory.
+pub fn distance(a: &[u8], b: &[u8]) -> usize
+    requires short { length a.now ≤ 2 ^ 24 }
+    requires long { length a.now ≡ length b.now }
+    ensures { result ≡ differences_of a.now b.now }
+{
+    differences(a, b)
+}
+
+/// Why a text has no bits (own).
+#[derive(Debug, Drop, Error)]
+pub enum TextFault {
+    /// The least place, in octets from 0, that holds neither `0` nor `1`, a newline at the very end excepted.
+    #[error("no bit at {at}")]
+    BadBit { at: usize },
+    /// Want of memory.
+    #[error("no memory")]
+    NoMemory(AllocError),
+}
+
+impl From<AllocError> for TextFault {
+    ghost from_gives = { λ e fault. fault ≡ NoMemory e };
+
+    fn from(e: AllocError) -> TextFault {
+        TextFault::NoMemory(e)
+    }
+}
+
+/// The bits of a text: characters `0` and `1`, with at most one newline, which is the last octet (own). `BadBit` comes
+/// exactly where a place holds none, and tells the least; `NoMemory` is free.
+pub fn read_text(alloc: Global, text: &[u8]) -> Result<Vec<u8>, TextFault>
+    ensures read { IfOk result (λ bits. IsTextOf text.now bits.items) }
+    ensures bits { IfOk result (λ bits. AreBits bits.items) }
+    ensures bad { (at : ℕ) → IsErrOf result (TextFault.BadBit at) → IsBadPlace text.now at }
+{
+    let characters = without_newline(text);
+    let mut bits = Vec::with_capacity(alloc, characters.len())?;
+    for (at, character) in characters.iter().enumerate() {
+        match bit_of(*character) {
+            Some(bit) => push_bit(&mut bits, bit)?,
+            None => return Err(TextFault::BadBit { at }),
+        }
+    }
+    Ok(bits)
+}
+
+// The bit that a character stands for.
+fn bit_of(character: u8) -> Option<u8>
+    ensures bit { IfSome result (λ bit. character ≡ 48 + bit) }
+    ensures is_bit { IfSome result IsBit }
+    ensures none { IfNone result (¬ IsCharacter character) }
+{
+    match character {
+        b'0' => Some(0),
+        b'1' => Some(1),
+        _ => None,
+    }
+}
+
+// Appends a bit.
+fn push_bit(bits: &mut Vec<u8>, bit: u8) -> Result<(), AllocError>
+    ensures { OnOk result (bits.new.items ≡ bits.old.items ++ bit ∷ []) }
+{
+    bits.push(bit)?;
+    Ok(())
+}
+
+// A text without the newline at its very end, if it has one.
+fn without_newline(text: &[u8]) -> &[u8]
+    ensures front { (result.now ≡ text.now) ⊎ (text.now ≡ result.now ++ 10 ∷ []) }
+    ensures stripped { (at : ℕ) → at + 1 ≡ length text.now → slice_index text.now at ≡ 10
+        → text.now ≡ result.now ++ 10 ∷ [] }
+{
+    match text {
+        [characters @ .., b'\n'] => characters,
+        _ => text,
+    }
+}
+
 // Appends the eight bits of one octet.
 fn push_octet(bits: &mut Vec<u8>, octet: u8) -> Result<(), AllocError>
     ensures value { OnOk result (bits.new.items ≡ bits.old.items ++ bits_of_octet octet) }
@@ -60,6 +208,36 @@ mod tests {
         assert_eq!(rt; bits.as_slice(), want.as_slice());
         let text = put_text(rt.alloc(), &[0, 1, 1])?;
         assert_eq!(rt; text.as_slice(), b"011\n".as_slice());
+        Ok(())
+    }
+
+    #[test]
+    fn gives_octets(rt: HostRuntime) -> Result<(), Fail> {
+        let bits = [1, 0, 0, 0, 0, 0, 0, 0, 1, 0, 1, 0, 1, 1, 0, 0];
+        let octets = bytes_of(rt.alloc(), &bits)?;
+        assert_eq!(rt; octets.as_slice(), [0x01, 0x35].as_slice());
+        assert_eq!(rt; distance(&bits, &[1; 16]), 11);
+        Ok(())
+    }
+
+    #[test]
+    fn reads_texts(rt: HostRuntime) -> Result<(), Fail> {
+        let rows: [(&[u8], &[u8]); 4] = [
+            (b"01", &[0, 1]),
+            (b"011\n", &[0, 1, 1]),
+            (b"", &[]),
+            (b"\n", &[]),
+        ];
+        for (text, bits) in rows {
+            let read = read_text(rt.alloc(), text)?;
+            assert!(rt; read.as_slice() == bits);
+        }
+        let bad: [(&[u8], usize); 4] = [(b"01x", 2), (b"\n0", 0), (b"0\n\n", 1), (b"0\r\n", 1)];
+        for (text, place) in bad {
+            assert!(rt;
+                matches!(&read_text(rt.alloc(), text), Err(TextFault::BadBit { at }) if *at == place)
+            );
+        }
         Ok(())
     }
 }

@@ -1,0 +1,2 @@
+mod EightBits
+mod Characters
