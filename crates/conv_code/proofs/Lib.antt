@@ -1,4 +1,4 @@
 mod Coded
 mod ExclusiveOr
-mod Inputs
+pub mod Inputs
 mod Linear
