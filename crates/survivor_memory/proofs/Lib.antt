@@ -1,8 +1,10 @@
 mod Closing
+mod Holding
 mod Leading
 mod Merge
 mod Order
 mod Prefixes
 mod Reached
 mod Spread
+mod Stepping
 mod Sums
