@@ -1,3 +1,5 @@
+mod Branches
+mod ByLanes
 mod Closing
 mod Holding
 mod Leading

@@ -2,6 +2,8 @@
 //! costs, and the list of least cost that they lead to.
 #![tactic(auto)]
 
+mod lanes;
+
 /// What a pair of marks costs: its first mark, for A, and its second, for B, each at the bit 0 and at the bit 1 (own).
 #[derive(Clone, Copy, Debug, PartialEq, Eq)]
 pub struct PairCosts {
