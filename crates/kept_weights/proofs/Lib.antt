@@ -1,1 +1,7 @@
+pub mod Apart
+pub mod Costs
+pub mod Heavy
 pub mod Potential
+pub mod Ranks
+pub mod StepWeights
+pub mod Sums
