@@ -1,7 +1,6 @@
 -- That a list of small cost is the nearest list.
-use Rattle.std.proofs.Common.{◌≡◌, ℕ, ◌+◌, ◌*◌, ◌<◌, ◌≤◌, ◌⊎◌, inl, inr, List, length, refl, ap, sym, ◌∙◌, arith}
+use Rattle.std.proofs.Common.{◌≡◌, ℕ, ◌+◌, ◌*◌, ◌<◌, ◌≤◌, ◌⊎◌, inl, inr, List, length, mul-le-mul_left, refl, ap, sym, ◌∙◌, arith}
 use Rattle.std.proofs.lemmas.List.FromFn.{length-map-range_with_len}
-use Rattle.std.proofs.lemmas.Nat.{mul-le-mul_left}
 use Rattle.bit_lists.specs.Bits.{AreBits}
 use Rattle.rate_table.specs.declared.CodeRate.{CodeRate}
 use Rattle.rate_table.specs.declared.CodeRate.TheVariants.{Half, TwoThirds, ThreeQuarters}
@@ -25,7 +24,7 @@ same_or_dear rate full n decisions u w cu cw =
           let cost_u = cost-over_kept_code rate full n decisions u cu.long in
           let cost_w = cost-over_kept_code rate full n decisions w cw.long in
           let apart = costs_by_distance full (kept_count rate n) decisions (kept_code rate u) (kept_code rate w) (AreBits-kept_code rate u) (AreBits-kept_code rate w) in
-          let more : full * least_weight rate ≤ full * distance (kept_count rate n) (kept_code rate u) (kept_code rate w) = mul-le-mul_left full _ _ far in
+          let more : full * least_weight rate ≤ full * distance (kept_count rate n) (kept_code rate u) (kept_code rate w) = mul-le-mul_left full far in
           inr (rw (cost_u, cost_w) (omega arith))
     ]
 
