@@ -1,14 +1,11 @@
 -- The memory of no pairs.
-use Rattle.std.proofs.Common.{◌≡◌, ℕ, zero, suc, ◌+◌, ◌<◌, ◌≤◌, List, [], ◌∷◌, length, get_or, replicate, refl, ap, sym, ◌∙◌, inl, inr, arith}
-use Rattle.std.specs.Prelude.{All}
+use Rattle.std.proofs.Common.{◌≡◌, ℕ, zero, suc, ◌<◌, ◌≤◌, List, [], ◌∷◌, get_or, replicate, refl, ap, sym, ◌∙◌, inl, inr, arith}
 use Rattle.std.proofs.lemmas.Bool.{cases_eq}
 use Rattle.std.proofs.lemmas.List.{nil_from_length}
-use Rattle.std.proofs.lemmas.List.Elements.{All-nil}
+use Rattle.std.proofs.lemmas.List.Elements.{All-nil, All-cons, All-replicate}
 use Rattle.std.proofs.lemmas.Simd.{get_or-replicate}
-use Rattle.conv_code.specs.Trellis.{state_before}
-use Rattle.survivor_memory.specs.declared.PairCosts.{PairCosts}
-use Rattle.survivor_memory.specs.Costs.{cost, IsLight}
-use Rattle.survivor_memory.specs.Survivors.{MemoryView, Holds, LeadsTo, followed}
+use Rattle.survivor_memory.specs.Costs.{IsLight}
+use Rattle.survivor_memory.specs.Survivors.{AreEntries, MemoryView, Holds, LeadsTo, followed}
 use Rattle.survivor_memory.proofs.Leading.{leads-nil, state_before-zero}
 use Rattle.survivor_memory.proofs.Merge.{IsSurvivor}
 use Rattle.survivor_memory.proofs.Sums.{cost_is, cost_from-nil}
@@ -41,6 +38,13 @@ holds_none memory entries base rows =
       least_is_zero = (0, omega arith, first);
     }
   where
-  full_behind : (s : ℕ) → s < 64 → (s ≡ 0 → ⊥) → get_or {A = ℕ} (0 ∷ replicate 63 255) s 0 ≡ 255
-  full_behind zero below other = absurd (other refl)
-  full_behind (suc s) below other = get_or-replicate {A = ℕ} 63 s 255 0 (omega arith)
+    full_behind : (s : ℕ) → s < 64 → (s ≡ 0 → ⊥) → get_or {A = ℕ} (0 ∷ replicate 63 255) s 0 ≡ 255
+    full_behind zero below other = absurd (other refl)
+    full_behind (suc s) below other = get_or-replicate {A = ℕ} 63 s 255 0 (omega arith)
+
+-- the entries before any pair are at most 255
+pub AreEntries-start : (entries : List ℕ) → entries ≡ 0 ∷ replicate 63 255 → AreEntries entries
+AreEntries-start entries e =
+    let most : 255 ≤ 255 = omega arith in
+    let none : 0 ≤ 255 = omega arith in
+    rw e (All-cons (λ entry. entry ≤ 255) 0 (replicate 63 255) none (All-replicate (λ entry. entry ≤ 255) 63 255 most))

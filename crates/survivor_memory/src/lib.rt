@@ -3,12 +3,15 @@
 #![tactic(auto)]
 
 mod lanes;
+pub mod laws;
+#[cfg(test)]
+mod tests;
 
-ghost use Rattle.std.specs.Prelude.{◌≡◌, ℕ, ◌+◌, ◌<◌, ◌≤◌, ◌^◌, List, [], ◌∷◌, ◌++◌, length, replicate, IfOk};
+ghost use Rattle.std.specs.Prelude.{◌≡◌, ℕ, ◌+◌, ◌*◌, ◌<◌, ◌≤◌, ◌^◌, List, [], ◌∷◌, ◌++◌, length, replicate, IfOk};
 ghost use Rattle.survivor_memory.specs.declared.PairCosts.{PairCosts};
-ghost use Rattle.survivor_memory.specs.Costs.{IsLight};
+ghost use Rattle.survivor_memory.specs.Costs.{CostAtMost, IsLight};
 ghost use Rattle.survivor_memory.specs.Nearest.{IsNearest};
-ghost use Rattle.survivor_memory.specs.Survivors.{Holds, followed};
+ghost use Rattle.survivor_memory.specs.Survivors.{AreEntries, DifferByAtMost, Holds, followed};
 
 use std::alloc::{AllocError, Global};
 use std::marker::Model;
@@ -56,6 +59,7 @@ impl SurvivorMemory {
     pub fn open(alloc: Global, room: usize) -> Result<SurvivorMemory, AllocError>
         requires { room ≤ 2 ^ 20 }
         ensures holds { IfOk result (λ memory. Holds memory []) }
+        ensures entries { IfOk result (λ memory. AreEntries memory.entries) }
         ensures room { IfOk result (λ memory. memory.room ≡ room) }
     {
         Ok(SurvivorMemory {
@@ -69,6 +73,7 @@ impl SurvivorMemory {
     /// Empties it. Takes no memory.
     pub fn start(&mut self)
         ensures holds { Holds self.new [] }
+        ensures entries { AreEntries self.new.entries }
         ensures room { self.new.room ≡ self.old.room }
     {
         self.entries = entries_at_start();
@@ -82,6 +87,9 @@ impl SurvivorMemory {
         requires light { IsLight costs }
         ensures appended { (pairs : List PairCosts) → Holds self.old pairs → Holds self.new (pairs ++ costs ∷ []) }
         ensures held { length self.new.rows ≡ length self.old.rows + 1 }
+        ensures entries { AreEntries self.new.entries }
+        ensures differ { (pairs : List PairCosts) (most : ℕ) → Holds self.new pairs → CostAtMost most pairs
+            → 6 ≤ length pairs → DifferByAtMost (6 * most) self.new.entries }
         ensures room { self.new.room ≡ self.old.room }
     {
         let (lower, higher) = lanes::predecessors(u8x64::from_array(self.entries));
@@ -102,6 +110,7 @@ impl SurvivorMemory {
         requires places { length out.old ≡ length self.old.rows }
         ensures nearest { (pairs : List PairCosts) → Holds self.old pairs → IsNearest pairs out.new result }
         ensures holds { Holds self.new [] }
+        ensures entries { AreEntries self.new.entries }
         ensures room { self.new.room ≡ self.old.room }
     {
         follow(&self.rows[..self.held], out);

@@ -1,4 +1,4 @@
-use Rattle.std.proofs.Common.{◌≡◌, ◌+◌, length, take, get_or, sym, ◌∙◌, add_comm, arith}
+use Rattle.std.proofs.Common.{◌≡◌, ◌+◌, length, take, get_or, arith}
 use Rattle.survivor_memory.specs.Survivors.{followed}
 use Rattle.survivor_memory.proofs.Holding.{nearest_from_holds}
 use Rattle.survivor_memory.proofs.SurvivorMemory.finish.Goals as goal

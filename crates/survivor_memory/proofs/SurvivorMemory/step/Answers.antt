@@ -1,7 +1,8 @@
-use Rattle.std.proofs.Common.{◌≡◌, ◌+◌, ◌<◌, ◌/◌, ◌%◌, ℕ, min, take, ◌++◌, ◌∷◌, [], ◌∙◌, length, get_or, ap, arith}
+use Rattle.std.proofs.Common.{◌+◌, ◌<◌, ◌/◌, ◌%◌, ◌∙◌, length, ap, arith}
 use Rattle.std.proofs.lemmas.List.{length-take, take_more_set}
-use Rattle.survivor_memory.proofs.Leading.{branch_cost, branch_cost_is}
-use Rattle.survivor_memory.proofs.Stepping.{Stepped, holds_push}
+use Rattle.survivor_memory.proofs.Holding.{entries_differ}
+use Rattle.survivor_memory.proofs.Leading.{branch_cost_is}
+use Rattle.survivor_memory.proofs.Stepping.{holds_push}
 use Rattle.survivor_memory.proofs.SurvivorMemory.step.Goals as goal
 
 pub returns-clause-appended : goal.returns-clause-appended
@@ -28,3 +29,6 @@ returns-clause-appended c = λ pairs holds.
     })
     c.requires.light
     (rw (← c.self.view_is) at holds)
+
+pub returns-clause-differ : goal.returns-clause-differ
+returns-clause-differ c = entries_differ _
