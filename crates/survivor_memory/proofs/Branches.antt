@@ -1,5 +1,5 @@
 -- The tables of the branches.
-use Rattle.std.proofs.Common.{◌≡◌, ℕ, zero, suc, ◌+◌, ◌-◌, ◌/◌, ◌%◌, ◌<◌, Bool, true, false, cond, eqb, get_or, refl, ◌∙◌, ◌==◌, if◌then◌else◌, arith}
+use Rattle.std.proofs.Common.{◌≡◌, ℕ, zero, suc, ◌+◌, ◌-◌, ◌/◌, ◌%◌, ◌<◌, true, eqb, get_or, refl, ◌∙◌, ◌==◌, if◌then◌else◌, arith}
 use Rattle.std.proofs.lemmas.Bool.{agree_below_at, eqb-true}
 use Rattle.conv_code.specs.Code.{earlier, parity_a, parity_b}
 use Rattle.conv_code.specs.Trellis.{branch_a, branch_b}
@@ -40,10 +40,10 @@ price_from_higher pair a b x y light bit_a bit_b first second =
     (first ∙ turned a pair.first_one pair.first_zero bit_a)
     (second ∙ turned b pair.second_one pair.second_zero bit_b)
   where
-  turned : (a p q : ℕ) → a < 2 → (if a == 0 then p else q) ≡ (if 1 - a == 0 then q else p)
-  turned zero p q h = refl
-  turned (suc zero) p q h = refl
-  turned (suc (suc a)) p q h = absurd (omega arith)
+    turned : (a p q : ℕ) → a < 2 → (if a == 0 then p else q) ≡ (if 1 - a == 0 then q else p)
+    turned zero p q h = refl
+    turned (suc zero) p q h = refl
+    turned (suc (suc a)) p q h = absurd (omega arith)
 
 -- the entries of the tables are bits
 pub IsBit-a_from_lower : (s : ℕ) → s < 64 → get_or A_FROM_LOWER s 0 < 2

@@ -1,5 +1,5 @@
 -- Vectors of 64 bytes, lane by lane.
-use Rattle.std.proofs.Common.{◌≡◌, ℕ, ◌+◌, ◌-◌, ◌*◌, ◌/◌, ◌%◌, ◌^◌, ◌<◌, ◌≤◌, List, [], ◌∷◌, ◌++◌, Bool, true, false, cond, ltb, eqb, map, min, length, get_or, replicate, refl, ap, sym, ◌∙◌, inl, inr, zero-add, add_comm, arith, Fits, w8}
+use Rattle.std.proofs.Common.{◌≡◌, ℕ, ◌+◌, ◌-◌, ◌*◌, ◌/◌, ◌%◌, ◌^◌, ◌<◌, ◌≤◌, List, [], ◌∷◌, ◌++◌, Bool, true, false, cond, ltb, eqb, map, min, length, get_or, replicate, refl, ap, ◌∙◌, inl, inr, zero-add, add_comm, arith, Fits, w8}
 use Rattle.std.specs.Int.{bit_at}
 use lib.Lanes.{Each1, zip2, sel_l, mask_l, pick_l, top}
 use Rattle.std.specs.List.{flat_map, range_with_len}
@@ -27,8 +27,8 @@ pub lesser_lane : (a b : List ℕ) (s : ℕ) → length a ≡ 64 → length b �
     → get_or (sel_l (map (top 7) (zip2 (λ x y. cond (ltb x y) 255 0) a b)) a b) s 0 ≡ min (get_or a s 0) (get_or b s 0)
 lesser_lane a b s la lb h = chosen_lane ltb a b a b s la lb la lb h ∙ lesser_is (get_or a s 0) (get_or b s 0)
   where
-  lesser_is : (x y : ℕ) → cond (ltb x y) x y ≡ min x y
-  lesser_is x y = grind (arith, ltb-true, ltb-false)
+    lesser_is : (x y : ℕ) → cond (ltb x y) x y ≡ min x y
+    lesser_is x y = grind (arith, ltb-true, ltb-false)
 
 -- the bit of a lane in the mask of a comparison
 pub mask_bit : (t : ℕ → ℕ → Bool) (a b : List ℕ) (s : ℕ) → length a ≡ 64 → length b ≡ 64 → s < 64

@@ -1,11 +1,10 @@
 -- The lists that end in six zeros are those that lead to state 0.
-use Rattle.std.proofs.Common.{◌≡◌, ℕ, ◌+◌, ◌-◌, ◌*◌, ◌<◌, ◌≤◌, List, length, get_or, refl, sym, ◌∙◌, arith}
-use Rattle.bit_lists.specs.Bits.{IsBit, AreBits}
+use Rattle.std.proofs.Common.{◌≡◌, ℕ, ◌-◌, ◌≤◌, List, length, refl, sym, ◌∙◌, arith}
 use Rattle.conv_code.specs.Code.{earlier}
 use Rattle.conv_code.specs.Trellis.{state_before}
 use Rattle.conv_code.proofs.Inputs.{earlier_inside}
 use Rattle.survivor_memory.specs.declared.PairCosts.{PairCosts}
-use Rattle.survivor_memory.specs.Nearest.{IsClosed, IsFirstOfLeast, IsNearest}
+use Rattle.survivor_memory.specs.Nearest.{IsClosed, IsNearest}
 use Rattle.survivor_memory.specs.Survivors.{LeadsTo}
 use Rattle.survivor_memory.proofs.Merge.{IsSurvivor}
 use Rattle.survivor_memory.proofs.Order.{one_to_six}

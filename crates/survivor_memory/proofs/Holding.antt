@@ -1,5 +1,5 @@
 -- What follows from what a memory stands for.
-use Rattle.std.proofs.Common.{◌≡◌, ℕ, zero, suc, ◌+◌, ◌-◌, ◌*◌, ◌/◌, ◌%◌, ◌<◌, ◌≤◌, List, [], ◌∷◌, ◌++◌, length, get_or, replicate, refl, ap, sym, add-one, ◌∙◌, inl, inr, arith}
+use Rattle.std.proofs.Common.{◌≡◌, ℕ, zero, suc, ◌+◌, ◌*◌, ◌/◌, ◌%◌, ◌<◌, ◌≤◌, List, [], ◌∷◌, ◌++◌, length, get_or, replicate, refl, add-one, inl, inr, arith}
 use Rattle.std.specs.Prelude.{All}
 use Rattle.std.specs.Int.{bit_at}
 use Rattle.std.proofs.lemmas.Bool.{cases_lt}
@@ -7,11 +7,11 @@ use Rattle.std.proofs.lemmas.List.{length-replicate, get_or_push, get_or_append_
 use Rattle.std.proofs.lemmas.List.Elements.{All-weaker, All-replicate}
 use Rattle.bit_lists.specs.Bits.{IsBit}
 use Rattle.survivor_memory.specs.declared.PairCosts.{PairCosts}
-use Rattle.survivor_memory.specs.Costs.{cost, most_cost, IsLight}
+use Rattle.survivor_memory.specs.Costs.{most_cost, IsLight}
 use Rattle.survivor_memory.specs.Nearest.{IsNearest}
 use Rattle.survivor_memory.specs.Survivors.{MemoryView, Holds, LeadsTo, followed, DifferByAtMost}
 use Rattle.survivor_memory.proofs.Closing.{nearest_from_survivor}
-use Rattle.survivor_memory.proofs.Sums.{cost_from, cost_is, cost_from_le}
+use Rattle.survivor_memory.proofs.Sums.{cost_is, cost_from_le}
 use Rattle.survivor_memory.proofs.Spread.{redirected, leads_redirected, cost_redirected}
 
 -- from six inputs on every state is reached

@@ -1,7 +1,6 @@
 -- Lists that lead to a state, and one more input.
-use Rattle.std.proofs.Common.{◌≡◌, ℕ, zero, suc, ◌+◌, ◌-◌, ◌*◌, ◌/◌, ◌%◌, ◌<◌, ◌≤◌, List, [], ◌∷◌, ◌++◌, length, get_or, take, refl, sym, add-zero, zero-add, ◌∙◌, ◌⊎◌, inl, inr, arith}
-use Rattle.std.specs.Prelude.{All}
-use Rattle.std.proofs.lemmas.List.{length-append, length_push, get_or_push, length-take-le, take_more, take_all}
+use Rattle.std.proofs.Common.{◌≡◌, ℕ, ◌+◌, ◌/◌, ◌%◌, ◌<◌, ◌≤◌, List, [], ◌∷◌, ◌++◌, length, get_or, take, refl, sym, add-zero, zero-add, ◌∙◌, ◌⊎◌, arith}
+use Rattle.std.proofs.lemmas.List.{length_push, get_or_push, length-take-le, take_more, take_all}
 use Rattle.std.proofs.lemmas.List.Elements.{All-nil, All-cons, All-append, All-take}
 use Rattle.bit_lists.specs.Bits.{IsBit, AreBits}
 use Rattle.conv_code.specs.Code.{parity_a, parity_b}
@@ -11,7 +10,7 @@ use Rattle.survivor_memory.specs.declared.PairCosts.{PairCosts}
 use Rattle.survivor_memory.specs.Costs.{price, cost, most_cost}
 use Rattle.survivor_memory.specs.Survivors.{LeadsTo}
 use Rattle.survivor_memory.proofs.Prefixes.{SameBelow, SameBelow-take, SameBelow-append, state_before_same}
-use Rattle.survivor_memory.proofs.Sums.{price_le, cost_from, cost_is, cost_from-nil, cost_from-cons, cost_from-append, cost_from_same}
+use Rattle.survivor_memory.proofs.Sums.{price_le, cost_is, cost_from-nil, cost_from-cons, cost_from-append, cost_from_same}
 
 -- a state is below 64
 pub state_before_lt : (u : List ℕ) (i : ℕ) → AreBits u → state_before u i < 64

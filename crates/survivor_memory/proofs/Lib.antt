@@ -9,4 +9,5 @@ mod Prefixes
 mod Reached
 mod Spread
 mod Stepping
+mod Starting
 mod Sums

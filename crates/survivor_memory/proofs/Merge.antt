@@ -1,13 +1,12 @@
 -- The survivor of a state one pair on.
-use Rattle.std.proofs.Common.{◌≡◌, ℕ, ◌+◌, ◌*◌, ◌/◌, ◌%◌, ◌<◌, ◌≤◌, List, [], ◌∷◌, ◌++◌, length, get_or, refl, ap, sym, ◌∙◌, ◌⊎◌, inl, inr, arith}
+use Rattle.std.proofs.Common.{◌≡◌, ℕ, ◌+◌, ◌/◌, ◌%◌, ◌<◌, ◌≤◌, List, [], ◌∷◌, ◌++◌, length, ap, ◌∙◌, ◌⊎◌, inl, inr, arith}
 use Rattle.conv_code.specs.Trellis.{state_after}
 use Rattle.survivor_memory.specs.declared.PairCosts.{PairCosts}
 use Rattle.survivor_memory.specs.Costs.{cost}
 use Rattle.survivor_memory.specs.Nearest.{ComesBefore, IsFirstOfLeast}
 use Rattle.survivor_memory.specs.Survivors.{LeadsTo}
-use Rattle.survivor_memory.proofs.Leading.{branch_cost, leads_push, leads_lt, cut, Cut, came_from, goes_to_low, goes_to_high, cost_push}
+use Rattle.survivor_memory.proofs.Leading.{branch_cost, leads_push, leads_lt, cut, came_from, goes_to_low, goes_to_high, cost_push}
 use Rattle.survivor_memory.proofs.Order.{not_after_push, comes_before_push, comes_before_six_ago}
-use Rattle.survivor_memory.proofs.Reached.{IsUnreached}
 
 -- the survivor of a state: of the lists that lead to it, the first of least cost
 abbrev pub IsSurvivor : ℕ → ℕ → List PairCosts → List ℕ → ℕ → Type 0
@@ -38,39 +37,38 @@ longer n s pairs pair w count leads =
 
 -- The lists through one predecessor r have a survivor u that no list through the other, o, beats.
 module _ (n s r o least : ℕ) (pairs : List PairCosts) (pair : PairCosts) (u : List ℕ)
-  (count : length pairs ≡ n) (below : s < 64)
-  (goes : state_after r (s % 2) ≡ s)
-  (either : (t : ℕ) → (t ≡ s / 2) ⊎ (t ≡ s / 2 + 32) → (t ≡ r) ⊎ (t ≡ o))
-  (best : IsSurvivor n r pairs u least)
-  (no_less : (v : List ℕ) → LeadsTo n o v → least + branch_cost pair r (s % 2) ≤ cost pairs v + branch_cost pair o (s % 2))
-  (before : (v : List ℕ) → LeadsTo n o v → cost pairs v + branch_cost pair o (s % 2) ≡ least + branch_cost pair r (s % 2) → ComesBefore u v)
+    (count : length pairs ≡ n) (below : s < 64)
+    (goes : state_after r (s % 2) ≡ s)
+    (either : (t : ℕ) → (t ≡ s / 2) ⊎ (t ≡ s / 2 + 32) → (t ≡ r) ⊎ (t ≡ o))
+    (best : IsSurvivor n r pairs u least)
+    (no_less : (v : List ℕ) → LeadsTo n o v → least + branch_cost pair r (s % 2) ≤ cost pairs v + branch_cost pair o (s % 2))
+    (before : (v : List ℕ) → LeadsTo n o v → cost pairs v + branch_cost pair o (s % 2) ≡ least + branch_cost pair r (s % 2) → ComesBefore u v)
   where
+    no_longer_less : (w : List ℕ) → LeadsTo (n + 1) s w → least + branch_cost pair r (s % 2) ≤ cost (pairs ++ pair ∷ []) w
+    no_longer_less w leads =
+        let l = longer n s pairs pair w count leads in
+        elim (either l.before l.from) [
+          | inl e ↦ let costs = rw e at l.costs in omega (arith, best.none_less l.front (rw e at l.leads), costs)
+          | inr e ↦ let costs = rw e at l.costs in omega (arith, no_less l.front (rw e at l.leads), costs)
+        ]
 
-  no_longer_less : (w : List ℕ) → LeadsTo (n + 1) s w → least + branch_cost pair r (s % 2) ≤ cost (pairs ++ pair ∷ []) w
-  no_longer_less w leads =
-      let l = longer n s pairs pair w count leads in
-      elim (either l.before l.from) [
-        | inl e ↦ let costs = rw e at l.costs in omega (arith, best.none_less l.front (rw e at l.leads), costs)
-        | inr e ↦ let costs = rw e at l.costs in omega (arith, no_less l.front (rw e at l.leads), costs)
-      ]
+    longer_comes_first : (w : List ℕ) → LeadsTo (n + 1) s w → cost (pairs ++ pair ∷ []) w ≡ least + branch_cost pair r (s % 2) → (u ++ s % 2 ∷ [] ≡ w) ⊎ ComesBefore (u ++ s % 2 ∷ []) w
+    longer_comes_first w leads same =
+        let l = longer n s pairs pair w count leads in
+        let long : length u ≡ length l.front = omega (arith, best.of_kind.long, l.leads.long) in
+        rw l.whole
+        (elim (either l.before l.from) [
+          | inl e ↦ let costs = rw e at l.costs in not_after_push u l.front (s % 2) long (best.comes_first l.front (rw e at l.leads) (omega (arith, costs, same)))
+          | inr e ↦ let costs = rw e at l.costs in inr (comes_before_push u l.front (s % 2) long (before l.front (rw e at l.leads) (omega (arith, costs, same))))
+        ])
 
-  longer_comes_first : (w : List ℕ) → LeadsTo (n + 1) s w → cost (pairs ++ pair ∷ []) w ≡ least + branch_cost pair r (s % 2) → (u ++ s % 2 ∷ [] ≡ w) ⊎ ComesBefore (u ++ s % 2 ∷ []) w
-  longer_comes_first w leads same =
-      let l = longer n s pairs pair w count leads in
-      let long : length u ≡ length l.front = omega (arith, best.of_kind.long, l.leads.long) in
-      rw l.whole
-      (elim (either l.before l.from) [
-        | inl e ↦ let costs = rw e at l.costs in not_after_push u l.front (s % 2) long (best.comes_first l.front (rw e at l.leads) (omega (arith, costs, same)))
-        | inr e ↦ let costs = rw e at l.costs in inr (comes_before_push u l.front (s % 2) long (before l.front (rw e at l.leads) (omega (arith, costs, same))))
-      ])
-
-  survivor_push : IsSurvivor (n + 1) s (pairs ++ pair ∷ []) (u ++ s % 2 ∷ []) (least + branch_cost pair r (s % 2))
-  survivor_push = record {
-    of_kind = rw goes at (leads_push n r (s % 2) u best.of_kind (omega arith));
-    costs = rw (cost_push n r (s % 2) u pairs pair count best.of_kind (omega arith), best.costs);
-    none_less = no_longer_less;
-    comes_first = longer_comes_first;
-  }
+    survivor_push : IsSurvivor (n + 1) s (pairs ++ pair ∷ []) (u ++ s % 2 ∷ []) (least + branch_cost pair r (s % 2))
+    survivor_push = record {
+      of_kind = rw goes at (leads_push n r (s % 2) u best.of_kind (omega arith));
+      costs = rw (cost_push n r (s % 2) u pairs pair count best.of_kind (omega arith), best.costs);
+      none_less = no_longer_less;
+      comes_first = longer_comes_first;
+    }
 
 -- Where the survivor of the lower predecessor costs no more than the lists through the higher, it goes on: at a tie its input
 -- six steps ago is 0, and theirs is 1.

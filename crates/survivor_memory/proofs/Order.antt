@@ -1,12 +1,12 @@
 -- The order of lists by the last place where they differ.
-use Rattle.std.proofs.Common.{◌≡◌, ℕ, zero, suc, ◌+◌, ◌-◌, ◌*◌, ◌/◌, ◌%◌, ◌<◌, ◌≤◌, List, [], ◌∷◌, ◌++◌, length, get_or, refl, ap, sym, ◌∙◌, ◌⊎◌, inl, inr, arith}
+use Rattle.std.proofs.Common.{◌≡◌, ℕ, zero, suc, ◌+◌, ◌-◌, ◌<◌, ◌≤◌, List, [], ◌∷◌, ◌++◌, length, get_or, ap, sym, ◌∙◌, ◌⊎◌, inl, inr, arith}
 use Rattle.std.specs.Int.{bit_at}
-use Rattle.std.proofs.lemmas.Bool.{cases_lt}
-use Rattle.std.proofs.lemmas.List.{length_push, get_or_push, get_or_append_left}
+use Rattle.std.proofs.lemmas.Bool.{cases_lt, cases_eq}
+use Rattle.std.proofs.lemmas.List.{length_push, get_or_push, get_or_append_left, get_or_past}
 use Rattle.conv_code.specs.Code.{earlier}
-use Rattle.conv_code.specs.Trellis.{state_before}
 use Rattle.conv_code.proofs.Inputs.{BitsOfState, bits_of_state_before, earlier_before, earlier_inside}
-use Rattle.survivor_memory.specs.Nearest.{ComesBefore}
+use Rattle.survivor_memory.specs.declared.PairCosts.{PairCosts}
+use Rattle.survivor_memory.specs.Nearest.{ComesBefore, IsFirstOfLeast}
 use Rattle.survivor_memory.specs.Survivors.{LeadsTo}
 
 -- what holds of 1 to 6 each
@@ -72,13 +72,13 @@ comes_before_six_ago n p u v h to_low to_high =
     let one : earlier v n 6 ≡ 1 = sym high.six_ago ∙ differ.high_six in
     let zero_there : earlier u n 6 ≡ 0 = sym low.six_ago ∙ differ.low_six in
     let same : (k : ℕ) → 1 ≤ k → k ≤ 6 → k ≤ 5 → earlier u n k ≡ earlier v n k =
-        one_to_six (λ k. k ≤ 5 → earlier u n k ≡ earlier v n k)
-        (λ _. sym low.one_ago ∙ sym differ.same_one ∙ high.one_ago)
-        (λ _. sym low.two_ago ∙ sym differ.same_two ∙ high.two_ago)
-        (λ _. sym low.three_ago ∙ sym differ.same_three ∙ high.three_ago)
-        (λ _. sym low.four_ago ∙ sym differ.same_four ∙ high.four_ago)
-        (λ _. sym low.five_ago ∙ sym differ.same_five ∙ high.five_ago)
-        (λ few. absurd (omega arith)) in
+    one_to_six (λ k. k ≤ 5 → earlier u n k ≡ earlier v n k)
+    (λ _. sym low.one_ago ∙ sym differ.same_one ∙ high.one_ago)
+    (λ _. sym low.two_ago ∙ sym differ.same_two ∙ high.two_ago)
+    (λ _. sym low.three_ago ∙ sym differ.same_three ∙ high.three_ago)
+    (λ _. sym low.four_ago ∙ sym differ.same_four ∙ high.four_ago)
+    (λ _. sym low.five_ago ∙ sym differ.same_five ∙ high.five_ago)
+    (λ few. absurd (omega arith)) in
     let long : 6 ≤ n = elim (cases_lt n 6) [ inl short ↦ absurd (omega (arith, earlier_before v n 6 short)) | inr long ↦ long ] in
     record {
       place = n - 6;
@@ -90,3 +90,34 @@ comes_before_six_ago n p u v h to_low to_high =
           let back : n - (n - later) ≡ later = omega arith in
           rw back at (sym (earlier_inside u n (n - later) (omega arith)) ∙ same (n - later) (omega arith) (omega arith) (omega arith) ∙ earlier_inside v n (n - later) (omega arith));
     }
+
+-- no two lists come before each other
+not_both_before : (u v : List ℕ) → ComesBefore u v → ComesBefore v u → ⊥
+not_both_before u v one other =
+    elim (cases_lt one.place other.place) [
+      | inl less ↦ elim (cases_lt other.place (length u)) [
+        | inl inside ↦ omega (arith, one.same_behind other.place less inside, other.zero, other.one)
+        | inr past ↦ omega (arith, get_or_past u other.place 0 past, other.one)
+      ]
+      | inr more ↦ elim (cases_eq one.place other.place) [
+        | inl same ↦ let zero_there : get_or u other.place 0 ≡ 0 = rw same at one.zero in omega (arith, zero_there, other.one)
+        | inr apart ↦ elim (cases_lt one.place (length v)) [
+          | inl inside ↦ omega (arith, other.same_behind one.place (omega arith) inside, one.zero, one.one)
+          | inr past ↦ omega (arith, get_or_past v one.place 0 past, one.one)
+        ]
+      ]
+    ]
+
+-- of a kind there is one first list of least cost, and one least cost
+pub one_first : (IsOfKind : List ℕ → Type 0) (pairs : List PairCosts) (u v : List ℕ) (d e : ℕ) → IsFirstOfLeast IsOfKind pairs u d → IsFirstOfLeast IsOfKind pairs v e → (u ≡ v) × (d ≡ e)
+one_first IsOfKind pairs u v d e first second =
+    let same : d ≡ e = omega (arith, first.none_less v second.of_kind, second.none_less u first.of_kind, first.costs, second.costs) in (
+      elim (first.comes_first v second.of_kind (omega (arith, second.costs))) [
+        | inl e ↦ e
+        | inr before ↦ elim (second.comes_first u first.of_kind (omega (arith, first.costs))) [
+          | inl e ↦ sym e
+          | inr after ↦ absurd (not_both_before u v before after)
+        ]
+      ],
+      same,
+    )

@@ -1,9 +1,8 @@
 -- Whether a list of so many bits leads to a state.
-use Rattle.std.proofs.Common.{◌≡◌, ℕ, zero, suc, ◌+◌, ◌-◌, ◌*◌, ◌/◌, ◌%◌, ◌<◌, ◌≤◌, List, [], ◌∷◌, ◌++◌, length, get_or, refl, ap, sym, subst, ◌∙◌, ◌⊎◌, inl, inr, arith, add-one}
+use Rattle.std.proofs.Common.{◌≡◌, ℕ, zero, suc, ◌+◌, ◌/◌, ◌%◌, ◌<◌, List, [], ◌∷◌, ◌++◌, sym, ◌∙◌, ◌⊎◌, inl, inr, arith, add-one}
 use Rattle.std.proofs.lemmas.Bool.{cases_eq}
-use Rattle.conv_code.specs.Trellis.{state_before, state_after}
 use Rattle.survivor_memory.specs.Survivors.{LeadsTo}
-use Rattle.survivor_memory.proofs.Leading.{leads-nil, leads_push, leads_lt, cut, Cut, came_from, goes_to_low, goes_to_high, state_before-zero}
+use Rattle.survivor_memory.proofs.Leading.{leads-nil, leads_push, leads_lt, cut, came_from, goes_to_low, goes_to_high, state_before-zero}
 
 -- some list of so many bits leads to a state
 pub record IsReached (n s : ℕ) : Type 0 where

@@ -1,5 +1,5 @@
 -- How far the least costs of two states lie apart.
-use Rattle.std.proofs.Common.{◌≡◌, ℕ, ◌+◌, ◌-◌, ◌*◌, ◌/◌, ◌%◌, ◌<◌, ◌≤◌, List, [], ◌∷◌, ◌++◌, length, get_or, take, drop, refl, ap, sym, zero-add, ◌∙◌, arith}
+use Rattle.std.proofs.Common.{◌≡◌, ℕ, ◌+◌, ◌-◌, ◌*◌, ◌<◌, ◌≤◌, List, [], ◌∷◌, ◌++◌, length, get_or, take, drop, refl, sym, zero-add, ◌∙◌, arith}
 use Rattle.std.specs.Prelude.{All}
 use Rattle.std.specs.Int.{bit_at}
 use Rattle.std.proofs.lemmas.List.{length-append, length-take-le, length-drop, get_or-append-add, take-append-drop}
@@ -12,7 +12,7 @@ use Rattle.conv_code.proofs.Inputs.{earlier_inside}
 use Rattle.survivor_memory.specs.declared.PairCosts.{PairCosts}
 use Rattle.survivor_memory.specs.Costs.{cost, most_cost}
 use Rattle.survivor_memory.specs.Survivors.{LeadsTo}
-use Rattle.survivor_memory.proofs.Prefixes.{SameBelow, SameBelow-take, SameBelow-append, state_before_same}
+use Rattle.survivor_memory.proofs.Prefixes.{SameBelow, SameBelow-take, SameBelow-append}
 use Rattle.survivor_memory.proofs.Sums.{cost_from, cost_is, cost_from-append, cost_from_same, cost_from_le}
 
 -- the six inputs of a state, the oldest first
@@ -35,7 +35,7 @@ unfolding state_before six_inputs
 leads_by_six k s u long bits h =
     let w = u ++ six_inputs s in
     let at : (j steps : ℕ) → steps + j ≡ 6 → earlier w (k + 6) steps ≡ get_or (six_inputs s) j 0 =
-        λ j steps e. let place : k + 6 - steps ≡ length u + j = omega arith in earlier_inside w (k + 6) steps (omega arith) ∙ rw place (get_or-append-add u (six_inputs s) j 0) in
+    λ j steps e. let place : k + 6 - steps ≡ length u + j = omega arith in earlier_inside w (k + 6) steps (omega arith) ∙ rw place (get_or-append-add u (six_inputs s) j 0) in
     record {
       long = omega (arith, length-append u (six_inputs s));
       bits = All-append IsBit u (six_inputs s) bits (are_bits s);
@@ -68,7 +68,7 @@ cost_redirected most n s pairs u all count some long =
     let front_count : length front ≡ n - 6 = length-take-le (n - 6) pairs (omega arith) in
     let last_count : length last ≡ 6 = length-drop (n - 6) pairs ∙ omega arith in
     let split : (v : List ℕ) → cost pairs v ≡ cost_from 0 front v + cost_from (length front) last v =
-        λ v. cost_is pairs v ∙ rw (take-append-drop (n - 6) pairs, zero-add) at (cost_from-append 0 front last v) in
+    λ v. cost_is pairs v ∙ rw (take-append-drop (n - 6) pairs, zero-add) at (cost_from-append 0 front last v) in
     let same : cost_from 0 front w ≡ cost_from 0 front u = cost_from_same (n - 6) w u (same_below_redirected n s u some long) 0 front (omega arith) in
     let few : cost_from (length front) last w ≤ length last * most = cost_from_le most w (length front) last (All-drop (λ pair. most_cost pair ≤ most) (n - 6) pairs all) in
     let few_more : cost_from (length front) last w ≤ 6 * most = rw last_count at few in

@@ -41,6 +41,10 @@ pub record Holds (memory : MemoryView) (pairs : List PairCosts) : Type 0 where
   -- the least entry is 0
   pub least_is_zero : (state : ℕ) × (state < 64) × (slice_index memory.entries state ≡ 0)
 
+-- every entry is at most 255
+abbrev pub AreEntries : List ℕ → Type 0
+AreEntries entries = All (λ entry. entry ≤ 255) entries
+
 -- the entries of any two states differ by at most this much
 abbrev pub DifferByAtMost : ℕ → List ℕ → Type 0
 DifferByAtMost bound entries =

@@ -25,8 +25,16 @@ pub fn branches_from_lower(costs: PairCosts) -> u8x64
     ensures { (s : ℕ) → s < 64
         → slice_index result s ≡ price costs (branch_a (s / 2) (s % 2)) (branch_b (s / 2) (s % 2)) }
 {
-    let first = chosen(u8x64::from_array(A_FROM_LOWER), costs.first_zero, costs.first_one);
-    let second = chosen(u8x64::from_array(B_FROM_LOWER), costs.second_zero, costs.second_one);
+    let first = chosen(
+        u8x64::from_array(A_FROM_LOWER),
+        costs.first_zero,
+        costs.first_one,
+    );
+    let second = chosen(
+        u8x64::from_array(B_FROM_LOWER),
+        costs.second_zero,
+        costs.second_one,
+    );
     first + second
 }
 
@@ -36,8 +44,16 @@ pub fn branches_from_higher(costs: PairCosts) -> u8x64
     ensures { (s : ℕ) → s < 64
         → slice_index result s ≡ price costs (branch_a (s / 2 + 32) (s % 2)) (branch_b (s / 2 + 32) (s % 2)) }
 {
-    let first = chosen(u8x64::from_array(A_FROM_LOWER), costs.first_one, costs.first_zero);
-    let second = chosen(u8x64::from_array(B_FROM_LOWER), costs.second_one, costs.second_zero);
+    let first = chosen(
+        u8x64::from_array(A_FROM_LOWER),
+        costs.first_one,
+        costs.first_zero,
+    );
+    let second = chosen(
+        u8x64::from_array(B_FROM_LOWER),
+        costs.second_one,
+        costs.second_zero,
+    );
     first + second
 }
 

@@ -1,4 +1,4 @@
-use Rattle.std.proofs.Common.{◌≡◌, ◌≤◌, ℕ, ◌<◌, get_or, min, inl, inr, ◌∙◌, sym, arith, below_more}
+use Rattle.std.proofs.Common.{◌≡◌, ◌≤◌, get_or, min, inl, inr, ◌∙◌, arith, below_more}
 use Rattle.std.proofs.lemmas.Bool.{cases_lt}
 use Rattle.survivor_memory.proofs.lanes.least_of.Goals as goal
 

@@ -1,5 +1,4 @@
-use Rattle.std.proofs.Common.{refl, ◌∙◌, arith}
-use Rattle.survivor_memory.proofs.ByLanes.{lowered_lane_below, lowered_lane_full, byte_lane}
+use Rattle.survivor_memory.proofs.ByLanes.{lowered_lane_below, lowered_lane_full}
 use Rattle.survivor_memory.proofs.lanes.lowered.Goals as goal
 
 pub returns-clause-lowered : goal.returns-clause-lowered

@@ -1,4 +1,4 @@
-use Rattle.std.proofs.Common.{◌≡◌, ltb, ap, ◌∙◌, arith}
+use Rattle.std.proofs.Common.{ltb, ◌∙◌}
 use Rattle.std.proofs.lemmas.Bool.{lt-ltb, le-ltb}
 use Rattle.survivor_memory.proofs.ByLanes.{mask_bit}
 use Rattle.survivor_memory.proofs.lanes.second_less.Goals as goal

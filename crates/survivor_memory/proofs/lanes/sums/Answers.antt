@@ -1,5 +1,3 @@
-use Rattle.std.proofs.Common.{arith, w8}
-use Rattle.std.proofs.lemmas.Simd.{Each1-get_or}
 use Rattle.survivor_memory.proofs.ByLanes.{held_sum_lane, byte_lane}
 use Rattle.survivor_memory.proofs.lanes.sums.Goals as goal
 

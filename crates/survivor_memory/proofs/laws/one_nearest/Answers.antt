@@ -1,0 +1,5 @@
+use Rattle.survivor_memory.proofs.Order.{one_first}
+use Rattle.survivor_memory.proofs.laws.one_nearest.Goals as goal
+
+pub returns : goal.returns
+returns c = λ pairs. one_first _ pairs
