@@ -14,7 +14,7 @@ use Rattle.conv_code.proofs.Linear.{length-exclusive_ors, slice_index-exclusive_
 use Rattle.puncture_map.specs.Kept.{kept_places, kept_count}
 use Rattle.puncture_map.proofs.KeptBits.{AreBits-kept_bits}
 use Rattle.survivor_memory.specs.Nearest.{IsClosed}
-use Rattle.kept_weights.specs.Weights.{kept_code, kept_weight, distance, least_weight}
+use Rattle.kept_weights.specs.Weights.{kept_code, kept_weight, distance_over, least_weight}
 use Rattle.kept_weights.proofs.Sums.{sum_below, sum_by-range, sum_by-places, sum_below-same}
 use Rattle.kept_weights.proofs.StepWeights.{length-kept_code}
 use Rattle.kept_weights.proofs.Heavy.{ZeroBelow, closed_is_heavy}
@@ -28,9 +28,9 @@ pub AreBits-kept_code : (rate : CodeRate) (u : List ℕ) → AreBits (kept_code 
 AreBits-kept_code rate u = AreBits-kept_bits rate (code_of u) (length (code_of u)) (AreBits-code_of u)
 
 -- the distance by places
-pub distance-by_places : (n : ℕ) (a b : List ℕ) → distance n a b ≡ sum_below (λ k. cond (not (slice_index a k == slice_index b k)) 1 0) n
-unfolding distance
-distance-by_places n a b = sum_by-range (λ k. cond (not (slice_index a k == slice_index b k)) 1 0) n
+pub distance_over-by_places : (n : ℕ) (a b : List ℕ) → distance_over n a b ≡ sum_below (λ k. cond (not (slice_index a k == slice_index b k)) 1 0) n
+unfolding distance_over
+distance_over-by_places n a b = sum_by-range (λ k. cond (not (slice_index a k == slice_index b k)) 1 0) n
 
 -- the exclusive or of lists that end in six zeros ends in six zeros
 closed-exclusive_ors : (n : ℕ) (u w : List ℕ) → IsClosed n u → IsClosed n w → IsClosed n (exclusive_ors u w)
@@ -83,7 +83,7 @@ one_where_other (suc (suc a)) b p q = absurd (omega arith)
 one_where_other a (suc (suc b)) p q = absurd (omega arith)
 
 -- and its kept weight is their distance
-kept_weight-exclusive_ors : (rate : CodeRate) (n : ℕ) (u w : List ℕ) → length u ≡ n → length w ≡ n → kept_weight rate (exclusive_ors u w) ≡ distance (kept_count rate n) (kept_code rate u) (kept_code rate w)
+kept_weight-exclusive_ors : (rate : CodeRate) (n : ℕ) (u w : List ℕ) → length u ≡ n → length w ≡ n → kept_weight rate (exclusive_ors u w) ≡ distance_over (kept_count rate n) (kept_code rate u) (kept_code rate w)
 kept_weight-exclusive_ors rate n u w long_u long_w =
     let x = exclusive_ors u w in
     let count : length (kept_code rate x) ≡ kept_count rate n = length-kept_code rate x ∙ ap (kept_count rate) (length-exclusive_ors u w ∙ long_u) in
@@ -91,16 +91,16 @@ kept_weight-exclusive_ors rate n u w long_u long_w =
     ∙ ap (sum_below (λ k. cond (slice_index (kept_code rate x) k == 1) 1 0)) count
     ∙ sum_below-same (λ k. cond (slice_index (kept_code rate x) k == 1) 1 0) (λ k. cond (not (slice_index (kept_code rate u) k == slice_index (kept_code rate w) k)) 1 0) (kept_count rate n)
     (λ k within. ap (λ bit. cond (bit == 1) 1 0) (kept_code-exclusive_ors rate n u w long_u long_w k within) ∙ one_where_other _ _ (IsBit-at (kept_code rate u) k (AreBits-kept_code rate u)) (IsBit-at (kept_code rate w) k (AreBits-kept_code rate w)))
-    ∙ sym (distance-by_places (kept_count rate n) (kept_code rate u) (kept_code rate w))
+    ∙ sym (distance_over-by_places (kept_count rate n) (kept_code rate u) (kept_code rate w))
 
 -- two lists of one length that end in six zeros are the same, or their kept codes are at least so far apart
-pub same_or_far : (rate : CodeRate) (n : ℕ) (u w : List ℕ) → IsClosed n u → IsClosed n w → (u ≡ w) ⊎ (least_weight rate ≤ distance (kept_count rate n) (kept_code rate u) (kept_code rate w))
+pub same_or_far : (rate : CodeRate) (n : ℕ) (u w : List ℕ) → IsClosed n u → IsClosed n w → (u ≡ w) ⊎ (least_weight rate ≤ distance_over (kept_count rate n) (kept_code rate u) (kept_code rate w))
 same_or_far rate n u w cu cw =
     elim (closed_is_heavy rate n (exclusive_ors u w) (closed-exclusive_ors n u w cu cw)) [
       | inl zeros ↦ inl (same_where_zero n u w cu cw zeros)
       | inr heavy ↦ (let weight = kept_weight-exclusive_ors rate n u w cu.long cw.long in inr (rw weight at heavy))
     ]
 
-pub far_where_other : (rate : CodeRate) (n : ℕ) (u w : List ℕ) → IsClosed n u → IsClosed n w → (u ≡ w → ⊥) → least_weight rate ≤ distance (kept_count rate n) (kept_code rate u) (kept_code rate w)
+pub far_where_other : (rate : CodeRate) (n : ℕ) (u w : List ℕ) → IsClosed n u → IsClosed n w → (u ≡ w → ⊥) → least_weight rate ≤ distance_over (kept_count rate n) (kept_code rate u) (kept_code rate w)
 far_where_other rate n u w cu cw other =
     elim (same_or_far rate n u w cu cw) [ inl same ↦ absurd (other same) | inr far ↦ far ]

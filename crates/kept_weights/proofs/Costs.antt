@@ -9,12 +9,12 @@ use Rattle.conv_code.proofs.Coded.{IsBit-parity_a, IsBit-parity_b}
 use Rattle.puncture_map.specs.Kept.{is_kept, kept_count}
 use Rattle.survivor_memory.specs.declared.PairCosts.{PairCosts}
 use Rattle.survivor_memory.specs.Costs.{price, cost}
-use Rattle.kept_weights.specs.Weights.{kept_code, distance}
+use Rattle.kept_weights.specs.Weights.{kept_code, distance_over}
 use Rattle.kept_weights.specs.Decisions.{decision_cost, mark_cost, pair_of, pairs_of, cost_of_decisions}
 use Rattle.kept_weights.proofs.Sums.{sum_below, sum_by-range, sum_below-same, sum_below-le}
 use Rattle.kept_weights.proofs.Ranks.{rank}
 use Rattle.kept_weights.proofs.StepWeights.{at_kept, sum_over_steps}
-use Rattle.kept_weights.proofs.Apart.{IsBit-at, AreBits-kept_code, distance-by_places}
+use Rattle.kept_weights.proofs.Apart.{IsBit-at, AreBits-kept_code, distance_over-by_places}
 
 -- the sum over pairs that are made of their places
 sum_by-places_of : (g : ℕ × PairCosts → ℕ) (f : ℕ → PairCosts) (a n : ℕ) → sum_by g (enumerate_from a (map f (range_with_len a n))) ≡ sum_by (λ i. g (i, f i)) (range_with_len a n)
@@ -69,12 +69,12 @@ hard_cost (suc (suc v)) b p q = absurd (omega arith)
 hard_cost v (suc (suc b)) p q = absurd (omega arith)
 
 -- against hard decisions it is the distance
-pub cost-hard : (rate : CodeRate) (n : ℕ) (decisions u : List ℕ) → length u ≡ n → AreBits decisions → cost (pairs_of rate 1 decisions n) u ≡ distance (kept_count rate n) (kept_code rate u) decisions
+pub cost-hard : (rate : CodeRate) (n : ℕ) (decisions u : List ℕ) → length u ≡ n → AreBits decisions → cost (pairs_of rate 1 decisions n) u ≡ distance_over (kept_count rate n) (kept_code rate u) decisions
 cost-hard rate n decisions u long bits =
     cost-over_kept_code rate 1 n decisions u long
     ∙ cost_of_decisions-by_places 1 decisions (kept_count rate n) (kept_code rate u)
     ∙ sum_below-same _ _ (kept_count rate n) (λ k within. hard_cost (slice_index decisions k) (slice_index (kept_code rate u) k) (IsBit-at decisions k bits) (IsBit-at (kept_code rate u) k (AreBits-kept_code rate u)))
-    ∙ sym (distance-by_places (kept_count rate n) (kept_code rate u) decisions)
+    ∙ sym (distance_over-by_places (kept_count rate n) (kept_code rate u) decisions)
 
 -- where two bits differ, their costs against a decision are together at least the full one
 two_costs : (full v a b : ℕ) → IsBit a → IsBit b → full * cond (not (a == b)) 1 0 ≤ decision_cost full v a + decision_cost full v b
@@ -86,7 +86,7 @@ two_costs full v (suc (suc a)) b p q = absurd (omega arith)
 two_costs full v a (suc (suc b)) p q = absurd (omega arith)
 
 -- so the costs of two lists of bits are together at least so many times their distance
-pub costs_by_distance : (full n : ℕ) (decisions a b : List ℕ) → AreBits a → AreBits b → full * distance n a b ≤ cost_of_decisions full decisions n a + cost_of_decisions full decisions n b
+pub costs_by_distance : (full n : ℕ) (decisions a b : List ℕ) → AreBits a → AreBits b → full * distance_over n a b ≤ cost_of_decisions full decisions n a + cost_of_decisions full decisions n b
 costs_by_distance full n decisions a b bits_a bits_b =
-    rw (distance-by_places n a b, cost_of_decisions-by_places full decisions n a, cost_of_decisions-by_places full decisions n b)
+    rw (distance_over-by_places n a b, cost_of_decisions-by_places full decisions n a, cost_of_decisions-by_places full decisions n b)
     (sum_below-le full _ _ _ n (λ k within. two_costs full (slice_index decisions k) (slice_index a k) (slice_index b k) (IsBit-at a k bits_a) (IsBit-at b k bits_b)))

@@ -1,5 +1,6 @@
 pub mod Apart
 pub mod Costs
+pub mod Fronts
 pub mod Heavy
 pub mod Nearest
 pub mod Potential

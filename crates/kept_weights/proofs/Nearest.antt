@@ -7,7 +7,7 @@ use Rattle.rate_table.specs.declared.CodeRate.TheVariants.{Half, TwoThirds, Thre
 use Rattle.puncture_map.specs.Kept.{kept_count}
 use Rattle.survivor_memory.specs.Costs.{cost}
 use Rattle.survivor_memory.specs.Nearest.{IsClosed, IsNearest}
-use Rattle.kept_weights.specs.Weights.{kept_code, distance, least_weight}
+use Rattle.kept_weights.specs.Weights.{kept_code, distance_over, least_weight}
 use Rattle.kept_weights.specs.Decisions.{pair_of, pairs_of, cost_of_decisions, repaired_changes, repaired_cost}
 use Rattle.kept_weights.proofs.Apart.{same_or_far, AreBits-kept_code}
 use Rattle.kept_weights.proofs.Costs.{cost-over_kept_code, cost-hard, costs_by_distance}
@@ -24,7 +24,7 @@ same_or_dear rate full n decisions u w cu cw =
           let cost_u = cost-over_kept_code rate full n decisions u cu.long in
           let cost_w = cost-over_kept_code rate full n decisions w cw.long in
           let apart = costs_by_distance full (kept_count rate n) decisions (kept_code rate u) (kept_code rate w) (AreBits-kept_code rate u) (AreBits-kept_code rate w) in
-          let more : full * least_weight rate ≤ full * distance (kept_count rate n) (kept_code rate u) (kept_code rate w) = mul-le-mul_left full far in
+          let more : full * least_weight rate ≤ full * distance_over (kept_count rate n) (kept_code rate u) (kept_code rate w) = mul-le-mul_left full far in
           inr (rw (cost_u, cost_w) (omega arith))
     ]
 
@@ -56,15 +56,15 @@ small_cost TwoThirds sum h = omega arith
 small_cost ThreeQuarters sum h = omega arith
 
 -- hard decisions
-cheap_where_few : (rate : CodeRate) (n : ℕ) (decisions w : List ℕ) → AreBits decisions → IsClosed n w → distance (kept_count rate n) (kept_code rate w) decisions ≤ repaired_changes rate → 2 * cost (pairs_of rate 1 decisions n) w < 1 * least_weight rate
+cheap_where_few : (rate : CodeRate) (n : ℕ) (decisions w : List ℕ) → AreBits decisions → IsClosed n w → distance_over (kept_count rate n) (kept_code rate w) decisions ≤ repaired_changes rate → 2 * cost (pairs_of rate 1 decisions n) w < 1 * least_weight rate
 cheap_where_few rate n decisions w bits cw few =
     rw (cost-hard rate n decisions w cw.long bits) (few_changes rate _ few)
 
-pub flips_repaired : (rate : CodeRate) (n least : ℕ) (decisions u w : List ℕ) → AreBits decisions → IsClosed n w → distance (kept_count rate n) (kept_code rate w) decisions ≤ repaired_changes rate → IsNearest (pairs_of rate 1 decisions n) u least → u ≡ w
+pub flips_repaired : (rate : CodeRate) (n least : ℕ) (decisions u w : List ℕ) → AreBits decisions → IsClosed n w → distance_over (kept_count rate n) (kept_code rate w) decisions ≤ repaired_changes rate → IsNearest (pairs_of rate 1 decisions n) u least → u ≡ w
 flips_repaired rate n least decisions u w bits cw few =
     cheap_is_nearest rate 1 n least decisions u w cw (cheap_where_few rate n decisions w bits cw few)
 
-pub flips_counted : (rate : CodeRate) (n least : ℕ) (decisions u w : List ℕ) → AreBits decisions → IsClosed n w → distance (kept_count rate n) (kept_code rate w) decisions ≤ repaired_changes rate → IsNearest (pairs_of rate 1 decisions n) u least → least ≡ distance (kept_count rate n) (kept_code rate w) decisions
+pub flips_counted : (rate : CodeRate) (n least : ℕ) (decisions u w : List ℕ) → AreBits decisions → IsClosed n w → distance_over (kept_count rate n) (kept_code rate w) decisions ≤ repaired_changes rate → IsNearest (pairs_of rate 1 decisions n) u least → least ≡ distance_over (kept_count rate n) (kept_code rate w) decisions
 flips_counted rate n least decisions u w bits cw few nearest =
     cheap_cost_is_least rate 1 n least decisions u w cw (cheap_where_few rate n decisions w bits cw few) nearest
     ∙ cost-hard rate n decisions w cw.long bits

@@ -15,8 +15,8 @@ abbrev pub kept_weight : CodeRate → List ℕ → ℕ
 kept_weight rate u = count_by (λ bit. bit == 1) (kept_code rate u)
 
 -- the distance of two lists over their first so many places: how many of them differ
-unfoldable pub distance : ℕ → List ℕ → List ℕ → ℕ
-distance count a b = count_by (λ place. not (slice_index a place == slice_index b place)) (range_with_len 0 count)
+unfoldable pub distance_over : ℕ → List ℕ → List ℕ → ℕ
+distance_over count a b = count_by (λ place. not (slice_index a place == slice_index b place)) (range_with_len 0 count)
 
 -- the least kept weight of a list that ends in six zeros and has a 1
 abbrev pub least_weight : CodeRate → ℕ
