@@ -17,13 +17,9 @@ use Rattle.survivor_memory.specs.Nearest.{IsClosed}
 use Rattle.kept_weights.specs.Weights.{kept_code, kept_weight, distance_over, least_weight}
 use Rattle.kept_weights.proofs.Sums.{sum_below, sum_by-range, sum_by-places, sum_below-same}
 use Rattle.kept_weights.proofs.StepWeights.{length-kept_code}
-use Rattle.kept_weights.proofs.Heavy.{ZeroBelow, closed_is_heavy}
+use Rattle.kept_weights.proofs.Heavy.{ZeroBelow, IsBit-at, closed_is_heavy}
 
--- an entry of a list of bits is a bit, and so is what is read past its end
-pub IsBit-at : (u : List ℕ) (k : ℕ) → AreBits u → IsBit (slice_index u k)
-IsBit-at u k bits =
-    elim (cases_lt k (length u)) [ inl within ↦ bits k 0 within | inr past ↦ rw (get_or_past u k 0 past) (omega arith) ]
-
+-- a kept code has bits
 pub AreBits-kept_code : (rate : CodeRate) (u : List ℕ) → AreBits (kept_code rate u)
 AreBits-kept_code rate u = AreBits-kept_bits rate (code_of u) (length (code_of u)) (AreBits-code_of u)
 

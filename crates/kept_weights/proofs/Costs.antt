@@ -14,7 +14,8 @@ use Rattle.kept_weights.specs.Decisions.{decision_cost, mark_cost, pair_of, pair
 use Rattle.kept_weights.proofs.Sums.{sum_below, sum_by-range, sum_below-same, sum_below-le}
 use Rattle.kept_weights.proofs.Ranks.{rank}
 use Rattle.kept_weights.proofs.StepWeights.{at_kept, sum_over_steps}
-use Rattle.kept_weights.proofs.Apart.{IsBit-at, AreBits-kept_code, distance_over-by_places}
+use Rattle.kept_weights.proofs.Heavy.{IsBit-at}
+use Rattle.kept_weights.proofs.Apart.{AreBits-kept_code, distance_over-by_places}
 
 -- the sum over pairs that are made of their places
 sum_by-places_of : (g : ℕ × PairCosts → ℕ) (f : ℕ → PairCosts) (a n : ℕ) → sum_by g (enumerate_from a (map f (range_with_len a n))) ≡ sum_by (λ i. g (i, f i)) (range_with_len a n)
@@ -46,7 +47,7 @@ cost-by_steps rate full n decisions u =
     ∙ sum_below-same _ _ n (λ i within. price_of_pair rate full decisions i (parity_a u i) (parity_b u i) (IsBit-parity_a u i) (IsBit-parity_b u i))
 
 -- the cost over decisions, by places
-cost_of_decisions-by_places : (full : ℕ) (decisions : List ℕ) (n : ℕ) (bits : List ℕ) → cost_of_decisions full decisions n bits ≡ sum_below (λ k. decision_cost full (slice_index decisions k) (slice_index bits k)) n
+pub cost_of_decisions-by_places : (full : ℕ) (decisions : List ℕ) (n : ℕ) (bits : List ℕ) → cost_of_decisions full decisions n bits ≡ sum_below (λ k. decision_cost full (slice_index decisions k) (slice_index bits k)) n
 unfolding cost_of_decisions
 cost_of_decisions-by_places full decisions n bits = sum_by-range (λ k. decision_cost full (slice_index decisions k) (slice_index bits k)) n
 

@@ -13,7 +13,7 @@ use Rattle.puncture_map.proofs.KeptBits.{kept_list-take}
 use Rattle.survivor_memory.specs.declared.PairCosts.{PairCosts}
 use Rattle.kept_weights.specs.Weights.{kept_code, distance_over}
 use Rattle.kept_weights.specs.Decisions.{mark_cost, decision_cost, pair_of, pairs_of}
-use Rattle.kept_weights.proofs.Sums.{sum_below, sum_below-same}
+use Rattle.kept_weights.proofs.Sums.{cond_same, sum_below, sum_below-same}
 use Rattle.kept_weights.proofs.Ranks.{rank, rank_more}
 use Rattle.kept_weights.proofs.Apart.{distance_over-by_places}
 
@@ -82,10 +82,6 @@ rank_below rate n place within kept =
     let up_to = rw whole at rises in
     let more : rank rate (place + 1) ≡ rank rate place + 1 = rank_more rate place ∙ ap (λ b. rank rate place + cond b 1 0) kept in
     omega arith
-
-cond_same : (b : Bool) (x y : ℕ) → (b ≡ true → x ≡ y) → cond b x 0 ≡ cond b y 0
-cond_same true x y same = same refl
-cond_same false x y same = refl
 
 mark_cost-take : (rate : CodeRate) (full n : ℕ) (decisions : List ℕ) (place bit : ℕ) → place < 2 * n → mark_cost rate full (take (kept_count rate n) decisions) place bit ≡ mark_cost rate full decisions place bit
 mark_cost-take rate full n decisions place bit within =

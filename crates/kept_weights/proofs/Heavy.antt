@@ -72,7 +72,8 @@ heavy_first rate u n bits one start =
     let there : potential_of rate (suc n % period_of rate) 1 ≡ potential_of rate (suc n % period_of rate) (state_before u (suc n)) = ap (potential_of rate (suc n % period_of rate)) after in
     omega arith
 
-IsBit-at : (u : List ℕ) (k : ℕ) → AreBits u → IsBit (slice_index u k)
+-- an entry of a list of bits is a bit, and so is what is read past its end
+pub IsBit-at : (u : List ℕ) (k : ℕ) → AreBits u → IsBit (slice_index u k)
 IsBit-at u k bits =
     elim (cases_lt k (length u)) [ inl within ↦ bits k 0 within | inr past ↦ rw (get_or_past u k 0 past) (omega arith) ]
 

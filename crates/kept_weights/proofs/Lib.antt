@@ -5,5 +5,6 @@ pub mod Heavy
 pub mod Nearest
 pub mod Potential
 pub mod Ranks
+pub mod Scaled
 pub mod StepWeights
 pub mod Sums

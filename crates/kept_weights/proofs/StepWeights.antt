@@ -13,7 +13,7 @@ use Rattle.conv_code.proofs.Inputs.{branch_a_along, branch_b_along}
 use Rattle.puncture_map.specs.Kept.{is_kept, kept_places, kept_count, period_of}
 use Rattle.kept_weights.specs.Weights.{kept_code, kept_weight}
 use Rattle.kept_weights.specs.Potentials.{branch_weight}
-use Rattle.kept_weights.proofs.Sums.{sum_below, sum_by-places, sum_below-same, sum_below-pairs}
+use Rattle.kept_weights.proofs.Sums.{cond_same, sum_below, sum_by-places, sum_below-same, sum_below-pairs}
 use Rattle.kept_weights.proofs.Ranks.{rank, sum_of_kept, kept_at_rank}
 
 -- the kept code has as many bits as places are kept
@@ -25,10 +25,6 @@ length-kept_code rate u =
 -- what a function of ranks gives at a kept place, and else nothing
 abbrev pub at_kept : CodeRate → (ℕ → ℕ) → ℕ → ℕ
 at_kept rate f place = cond (is_kept rate place) (f place) 0
-
-cond_same : (b : Bool) (x y : ℕ) → (b ≡ true → x ≡ y) → cond b x 0 ≡ cond b y 0
-cond_same true x y same = same refl
-cond_same false x y same = refl
 
 -- a sum over the bits of a kept code, and one over the kept places of the code
 pub sum_over_code : (rate : CodeRate) (g : ℕ → ℕ → ℕ) (u : List ℕ) → sum_below (λ k. g k (slice_index (kept_code rate u) k)) (kept_count rate (length u)) ≡ sum_below (at_kept rate (λ place. g (rank rate place) (slice_index (code_of u) place))) (2 * length u)

@@ -1,5 +1,5 @@
 -- Sums over the numbers below a number.
-use Rattle.std.proofs.Common.{◌≡◌, ℕ, zero, suc, ◌+◌, ◌*◌, ◌<◌, ◌≤◌, List, length, take, get_or, map, refl, ap, sym, ◌∙◌, arith}
+use Rattle.std.proofs.Common.{◌≡◌, ℕ, zero, suc, ◌+◌, ◌*◌, ◌<◌, ◌≤◌, List, Bool, true, false, cond, length, take, get_or, map, refl, ap, sym, ◌∙◌, arith}
 use Rattle.std.specs.List.{sum_by, range_with_len}
 use Rattle.std.proofs.lemmas.List.{map-id, take_all}
 use Rattle.std.proofs.lemmas.List.FromFn.{sum_by-map-range_with_len_more}
@@ -59,3 +59,8 @@ sum_below-pairs f (suc n) =
     let two_on : 2 * suc n ≡ suc (suc (2 * n)) = omega arith in
     let one_on : suc (2 * n) ≡ 2 * n + 1 = omega arith in
     rw (two_on, one_on) (omega arith)
+
+-- what counts only where a test holds
+pub cond_same : (b : Bool) (x y : ℕ) → (b ≡ true → x ≡ y) → cond b x 0 ≡ cond b y 0
+cond_same true x y same = same refl
+cond_same false x y same = refl

@@ -1,6 +1,6 @@
 //! What holds of kept weights. The functions do nothing: what each ensures is the law.
 
-ghost use Rattle.std.specs.Prelude.{◌≡◌, ◌≢◌, ◌≤◌, ◌<◌, ◌+◌, ◌*◌, ℕ, List, [], ◌∷◌, ◌++◌, length, slice_index, take};
+ghost use Rattle.std.specs.Prelude.{◌≡◌, ◌≢◌, ◌≤◌, ◌<◌, ◌+◌, ◌*◌, ℕ, List, [], ◌∷◌, ◌++◌, length, map, slice_index, take};
 ghost use Rattle.bit_lists.specs.Bits.{AreBits};
 ghost use Rattle.rate_table.specs.declared.CodeRate.{CodeRate};
 ghost use Rattle.rate_table.specs.declared.Rate.{Rate};
@@ -96,4 +96,15 @@ pub fn pairs_of_decisions()
             ≡ pairs_of rate full decisions steps ++ pair_of rate full decisions steps ∷ [] }
     ensures first_decisions { (rate : CodeRate) (full steps : ℕ) (decisions : List ℕ)
         → pairs_of rate full (take (kept_count rate steps) decisions) steps ≡ pairs_of rate full decisions steps }
+{}
+
+/// Decisions that are all 0 or full cost so many times what the hard decisions 0 and 1 cost, and have the same nearest list
+/// (own).
+pub fn full_decisions_are_hard()
+    ensures cost { (rate : CodeRate) (full steps : ℕ) (decisions u : List ℕ) → AreBits decisions → length u ≡ steps
+        → cost (pairs_of rate full (map (λ decision. full * decision) decisions) steps) u
+            ≡ full * cost (pairs_of rate 1 decisions steps) u }
+    ensures nearest { (rate : CodeRate) (full steps least : ℕ) (decisions u : List ℕ) → AreBits decisions
+        → 0 < full → IsNearest (pairs_of rate 1 decisions steps) u least
+        → IsNearest (pairs_of rate full (map (λ decision. full * decision) decisions) steps) u (full * least) }
 {}
