@@ -1,8 +1,7 @@
 -- How far apart the kept codes of two lists that end in six zeros are.
-use Rattle.std.proofs.Common.{◌≡◌, ℕ, zero, suc, ◌+◌, ◌*◌, ◌<◌, ◌≤◌, ◌==◌, ◌⊎◌, inl, inr, cond, not, List, length, map, slice_index, get_or, refl, ap, sym, ◌∙◌, arith}
+use Rattle.std.proofs.Common.{◌≡◌, ℕ, zero, suc, ◌*◌, ◌<◌, ◌≤◌, ◌==◌, ◌⊎◌, inl, inr, cond, not, List, length, map, slice_index, get_or, refl, ap, sym, ◌∙◌, arith}
 use Rattle.std.specs.List.{range_with_len}
-use Rattle.std.proofs.lemmas.Bool.{cases_lt}
-use Rattle.std.proofs.lemmas.List.{get_or-map, get_or_past}
+use Rattle.std.proofs.lemmas.List.{get_or-map}
 use Rattle.std.proofs.lemmas.List.Elements.{All-map}
 use Rattle.std.proofs.lemmas.Grind.{same_number_lists}
 use Rattle.bit_lists.specs.Bits.{IsBit, AreBits, exclusive_or}
@@ -56,8 +55,8 @@ kept_code_at rate u n k long within =
     ap (λ m. get_or (kept_bits_of m) k 0) twice
     ∙ get_or-map (slice_index (code_of u)) (kept_places rate (2 * n)) k 0 0 within
   where
-  kept_bits_of : ℕ → List ℕ
-  kept_bits_of m = map (slice_index (code_of u)) (kept_places rate m)
+    kept_bits_of : ℕ → List ℕ
+    kept_bits_of m = map (slice_index (code_of u)) (kept_places rate m)
 
 -- so the kept code of an exclusive or is the exclusive or of the kept codes
 kept_code-exclusive_ors : (rate : CodeRate) (n : ℕ) (u w : List ℕ) → length u ≡ n → length w ≡ n → (k : ℕ) → k < kept_count rate n → slice_index (kept_code rate (exclusive_ors u w)) k ≡ exclusive_or (slice_index (kept_code rate u) k) (slice_index (kept_code rate w) k)

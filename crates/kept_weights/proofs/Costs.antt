@@ -1,12 +1,12 @@
 -- What a list costs against the pairs of marks of decisions.
-use Rattle.std.proofs.Common.{◌≡◌, ℕ, zero, suc, ◌+◌, ◌-◌, ◌*◌, ◌<◌, ◌≤◌, ◌==◌, Bool, true, false, cond, not, List, [], ◌∷◌, length, map, slice_index, refl, ap, sym, ◌∙◌, arith}
+use Rattle.std.proofs.Common.{◌≡◌, ℕ, zero, suc, ◌+◌, ◌*◌, ◌≤◌, ◌==◌, cond, not, List, length, map, slice_index, refl, ap, sym, ◌∙◌, arith}
 use Rattle.std.specs.List.{sum_by, range_with_len, enumerate_from}
 use Rattle.std.proofs.lemmas.List.Sums.{sum_by-cons}
 use Rattle.bit_lists.specs.Bits.{IsBit, AreBits}
 use Rattle.rate_table.specs.declared.CodeRate.{CodeRate}
 use Rattle.conv_code.specs.Code.{parity_a, parity_b}
 use Rattle.conv_code.proofs.Coded.{IsBit-parity_a, IsBit-parity_b}
-use Rattle.puncture_map.specs.Kept.{is_kept, kept_count}
+use Rattle.puncture_map.specs.Kept.{kept_count}
 use Rattle.survivor_memory.specs.declared.PairCosts.{PairCosts}
 use Rattle.survivor_memory.specs.Costs.{price, cost}
 use Rattle.kept_weights.specs.Weights.{kept_code, distance_over}

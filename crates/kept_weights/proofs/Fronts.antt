@@ -1,10 +1,10 @@
 -- The kept code of a list's front, and the pairs of marks of the first decisions.
-use Rattle.std.proofs.Common.{◌≡◌, ℕ, zero, suc, ◌+◌, ◌-◌, ◌*◌, ◌<◌, ◌≤◌, ◌==◌, Bool, true, false, cond, not, List, [], ◌∷◌, ◌++◌, length, take, map, slice_index, inl, inr, refl, ap, sym, ◌∙◌, arith}
+use Rattle.std.proofs.Common.{◌≡◌, ℕ, zero, suc, ◌+◌, ◌-◌, ◌*◌, ◌<◌, ◌≤◌, ◌==◌, true, cond, not, List, [], ◌∷◌, ◌++◌, length, take, slice_index, inl, inr, ap, sym, ◌∙◌, arith}
 use Rattle.std.proofs.lemmas.Bool.{cases_lt}
 use Rattle.std.proofs.lemmas.List.{get_or-take, length-take-le}
 use Rattle.std.proofs.lemmas.List.FromFn.{map-range_with_len_more, fill_by_all, get_or-map-range_with_len, length-map-range_with_len}
 use Rattle.rate_table.specs.declared.CodeRate.{CodeRate}
-use Rattle.conv_code.specs.Code.{earlier, parity_a, parity_b, Codes, code_of}
+use Rattle.conv_code.specs.Code.{earlier, parity_a, parity_b, code_of}
 use Rattle.conv_code.proofs.Coded.{Codes-code_of}
 use Rattle.conv_code.proofs.Inputs.{earlier_before, earlier_inside}
 use Rattle.conv_code.proofs.Linear.{same_from_Codes}
@@ -13,7 +13,7 @@ use Rattle.puncture_map.proofs.KeptBits.{kept_list-take}
 use Rattle.survivor_memory.specs.declared.PairCosts.{PairCosts}
 use Rattle.kept_weights.specs.Weights.{kept_code, distance_over}
 use Rattle.kept_weights.specs.Decisions.{mark_cost, decision_cost, pair_of, pairs_of}
-use Rattle.kept_weights.proofs.Sums.{cond_same, sum_below, sum_below-same}
+use Rattle.kept_weights.proofs.Sums.{cond_same, sum_below-same}
 use Rattle.kept_weights.proofs.Ranks.{rank, rank_more}
 use Rattle.kept_weights.proofs.Apart.{distance_over-by_places}
 

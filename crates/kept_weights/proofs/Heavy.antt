@@ -1,17 +1,17 @@
 -- That a list that ends in six zeros and has a 1 has at least the least kept weight.
-use Rattle.std.proofs.Common.{◌≡◌, ℕ, zero, suc, ◌+◌, ◌-◌, ◌*◌, ◌%◌, ◌<◌, ◌≤◌, ◌⊎◌, inl, inr, List, length, slice_index, refl, ap, sym, ◌∙◌, arith}
+use Rattle.std.proofs.Common.{◌≡◌, ℕ, zero, suc, ◌+◌, ◌-◌, ◌%◌, ◌<◌, ◌≤◌, ◌⊎◌, inl, inr, List, length, slice_index, refl, ap, ◌∙◌, arith}
 use Rattle.std.proofs.lemmas.Bool.{cases_lt, cases_eq}
 use Rattle.std.proofs.lemmas.List.{get_or_past}
 use Rattle.bit_lists.specs.Bits.{IsBit, AreBits}
 use Rattle.rate_table.specs.declared.CodeRate.{CodeRate}
 use Rattle.rate_table.specs.declared.CodeRate.TheVariants.{Half, TwoThirds, ThreeQuarters}
 use Rattle.conv_code.specs.Code.{earlier}
-use Rattle.conv_code.specs.Trellis.{state_after, state_before}
+use Rattle.conv_code.specs.Trellis.{state_before}
 use Rattle.conv_code.proofs.Inputs.{earlier_before, earlier_inside, IsBit-earlier, state_before-more}
 use Rattle.puncture_map.specs.Kept.{period_of}
 use Rattle.survivor_memory.specs.Nearest.{IsClosed}
 use Rattle.kept_weights.specs.Weights.{kept_weight, least_weight}
-use Rattle.kept_weights.specs.Potentials.{branch_weight, next_phase, potential_of, IsPotential}
+use Rattle.kept_weights.specs.Potentials.{next_phase, potential_of}
 use Rattle.kept_weights.proofs.Potential.{each_is_potential}
 use Rattle.kept_weights.proofs.Sums.{sum_below}
 use Rattle.kept_weights.proofs.StepWeights.{step_weight, kept_weight-by_steps, branch_weight_along}
@@ -25,10 +25,10 @@ pub state_zero : (u : List ℕ) (n : ℕ) → ((place : ℕ) → place < n → n
 unfolding state_before
 state_zero u n zeros =
     let at : (steps : ℕ) → 1 ≤ steps → steps ≤ 6 → earlier u n steps ≡ 0 =
-        λ steps some few. elim (cases_lt n steps) [
-          | inl before ↦ earlier_before u n steps before
-          | inr inside ↦ earlier_inside u n steps inside ∙ zeros (n - steps) (omega arith) (omega arith)
-        ] in
+    λ steps some few. elim (cases_lt n steps) [
+      | inl before ↦ earlier_before u n steps before
+      | inr inside ↦ earlier_inside u n steps inside ∙ zeros (n - steps) (omega arith) (omega arith)
+    ] in
     rw (at 1 (omega arith) (omega arith), at 2 (omega arith) (omega arith), at 3 (omega arith) (omega arith), at 4 (omega arith) (omega arith), at 5 (omega arith) (omega arith), at 6 (omega arith) (omega arith))
 
 -- a state is below 64
@@ -99,10 +99,10 @@ zero_or_heavy rate u (suc n) bits =
       | inr heavy ↦ inr (heavy_more rate u n bits (IsBit-at u n bits) heavy)
     ]
   where
-  one_of : (a : ℕ) → IsBit a → (a ≡ 0 → ⊥) → a ≡ 1
-  one_of zero h other = absurd (other refl)
-  one_of (suc zero) h other = refl
-  one_of (suc (suc a)) h other = absurd (omega arith)
+    one_of : (a : ℕ) → IsBit a → (a ≡ 0 → ⊥) → a ≡ 1
+    one_of zero h other = absurd (other refl)
+    one_of (suc zero) h other = refl
+    one_of (suc (suc a)) h other = absurd (omega arith)
 
 -- a list that ends in six zeros is 0 everywhere, or it has at least the least kept weight
 pub closed_is_heavy : (rate : CodeRate) (n : ℕ) (u : List ℕ) → IsClosed n u → ZeroBelow n u ⊎ (least_weight rate ≤ kept_weight rate u)

@@ -1,5 +1,5 @@
 -- The rank of a kept place: how many kept places stand before it.
-use Rattle.std.proofs.Common.{◌≡◌, ℕ, zero, suc, ◌+◌, ◌*◌, ◌<◌, ◌≤◌, Bool, true, false, cond, List, [], ◌∷◌, ◌++◌, length, map, take, get_or, slice_index, refl, ap, sym, ◌∙◌, arith}
+use Rattle.std.proofs.Common.{◌≡◌, ℕ, zero, suc, ◌+◌, ◌<◌, Bool, true, false, cond, List, [], ◌∷◌, ◌++◌, length, take, get_or, slice_index, refl, ap, sym, ◌∙◌, arith}
 use Rattle.std.proofs.lemmas.List.{length-append, length-map, get_or_push, get_or-take, length-take-le}
 use Rattle.rate_table.specs.declared.CodeRate.{CodeRate}
 use Rattle.puncture_map.specs.Kept.{is_kept, kept_places, kept_list}
@@ -30,9 +30,9 @@ sum_of_kept rate f (suc n) =
     ∙ one_place (is_kept rate n) (rank rate n)
     ∙ ap (sum_below f) (sym (ap (rank rate) one_more ∙ rank_more rate n))
   where
-  one_place : (b : Bool) (r : ℕ) → sum_below f r + cond b (f r) 0 ≡ sum_below f (r + cond b 1 0)
-  one_place true r = let one_on : r + 1 ≡ suc r = omega arith in rw one_on
-  one_place false r = let same : r + 0 ≡ r = omega arith in rw same (omega arith)
+    one_place : (b : Bool) (r : ℕ) → sum_below f r + cond b (f r) 0 ≡ sum_below f (r + cond b 1 0)
+    one_place true r = let one_on : r + 1 ≡ suc r = omega arith in rw one_on
+    one_place false r = let same : r + 0 ≡ r = omega arith in rw same (omega arith)
 
 -- the kept bit with a kept place's rank is the bit at the place
 pub kept_at_rank : (rate : CodeRate) (code : List ℕ) (n : ℕ) → n < length code → is_kept rate n ≡ true → slice_index (kept_list rate code) (rank rate n) ≡ slice_index code n

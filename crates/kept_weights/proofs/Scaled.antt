@@ -1,5 +1,5 @@
 -- Decisions that are 0 or full cost so many times what the hard decisions 0 and 1 cost.
-use Rattle.std.proofs.Common.{◌≡◌, ℕ, zero, suc, ◌+◌, ◌-◌, ◌*◌, ◌<◌, ◌≤◌, ◌==◌, inl, inr, List, length, map, slice_index, mul-le-mul_left, refl, ap, sym, ◌∙◌, arith}
+use Rattle.std.proofs.Common.{◌≡◌, ℕ, zero, suc, ◌*◌, ◌<◌, ◌≤◌, List, length, map, slice_index, mul-le-mul_left, refl, ap, sym, ◌∙◌, arith}
 use Rattle.std.proofs.Math.Nat.{le_of_mul-le-mul_left}
 use Rattle.std.proofs.Math.ListN.{get_or-map}
 use Rattle.bit_lists.specs.Bits.{IsBit, AreBits}
@@ -63,9 +63,9 @@ nearest-scaled rate full n least decisions u bits some nearest =
     let count : length (pairs_of rate full (scaled full decisions) n) ≡ n = length-pairs_of rate full n (scaled full decisions) in
     let count_hard : length (pairs_of rate 1 decisions n) ≡ n = length-pairs_of rate 1 n decisions in
     let as_hard : (v : List ℕ) → IsClosed (length (pairs_of rate full (scaled full decisions) n)) v → IsClosed (length (pairs_of rate 1 decisions n)) v =
-        λ v closed. (let there = rw count at closed in rw count_hard there) in
+    λ v closed. (let there = rw count at closed in rw count_hard there) in
     let times : (v : List ℕ) → IsClosed (length (pairs_of rate 1 decisions n)) v → cost (pairs_of rate full (scaled full decisions) n) v ≡ full * cost (pairs_of rate 1 decisions n) v =
-        λ v closed. cost-scaled rate full n decisions v bits (closed.long ∙ count_hard) in
+    λ v closed. cost-scaled rate full n decisions v bits (closed.long ∙ count_hard) in
     record {
       of_kind = (let there = rw count_hard at nearest.of_kind in rw count there);
       costs = times u nearest.of_kind ∙ ap (λ s. full * s) nearest.costs;

@@ -35,10 +35,10 @@ pub fn least_distance()
 pub fn cost_over_kept_places()
     ensures sum { (rate : CodeRate) (full steps : ℕ) (decisions u : List ℕ) → length u ≡ steps
         → cost (pairs_of rate full decisions steps) u
-            ≡ cost_of_decisions full decisions (kept_count rate steps) (kept_code rate u) }
+        ≡ cost_of_decisions full decisions (kept_count rate steps) (kept_code rate u) }
     ensures hard { (rate : CodeRate) (steps : ℕ) (decisions u : List ℕ) → length u ≡ steps → AreBits decisions
         → cost (pairs_of rate 1 decisions steps) u
-            ≡ distance_over (kept_count rate steps) (kept_code rate u) decisions }
+        ≡ distance_over (kept_count rate steps) (kept_code rate u) decisions }
 {}
 
 /// A list that ends in six zeros, and costs less than half of what the least kept weight can cost, is the nearest list
@@ -85,7 +85,7 @@ pub fn kept_code_of_front()
         → take (kept_count rate steps) (kept_code rate u) ≡ kept_code rate (take steps u) }
     ensures distance { (rate : CodeRate) (steps : ℕ) (u decisions : List ℕ) → steps ≤ length u
         → distance_over (kept_count rate steps) (kept_code rate u) decisions
-            ≡ distance_over (kept_count rate steps) (kept_code rate (take steps u)) decisions }
+        ≡ distance_over (kept_count rate steps) (kept_code rate (take steps u)) decisions }
 {}
 
 /// The pairs of marks of decisions are made one by one, and decisions behind the kept places play no part (own).
@@ -93,7 +93,7 @@ pub fn pairs_of_decisions()
     ensures none { (rate : CodeRate) (full : ℕ) (decisions : List ℕ) → pairs_of rate full decisions 0 ≡ [] }
     ensures one_more { (rate : CodeRate) (full steps : ℕ) (decisions : List ℕ)
         → pairs_of rate full decisions (steps + 1)
-            ≡ pairs_of rate full decisions steps ++ pair_of rate full decisions steps ∷ [] }
+        ≡ pairs_of rate full decisions steps ++ pair_of rate full decisions steps ∷ [] }
     ensures first_decisions { (rate : CodeRate) (full steps : ℕ) (decisions : List ℕ)
         → pairs_of rate full (take (kept_count rate steps) decisions) steps ≡ pairs_of rate full decisions steps }
 {}
@@ -103,7 +103,7 @@ pub fn pairs_of_decisions()
 pub fn full_decisions_are_hard()
     ensures cost { (rate : CodeRate) (full steps : ℕ) (decisions u : List ℕ) → AreBits decisions → length u ≡ steps
         → cost (pairs_of rate full (map (λ decision. full * decision) decisions) steps) u
-            ≡ full * cost (pairs_of rate 1 decisions steps) u }
+        ≡ full * cost (pairs_of rate 1 decisions steps) u }
     ensures nearest { (rate : CodeRate) (full steps least : ℕ) (decisions u : List ℕ) → AreBits decisions
         → 0 < full → IsNearest (pairs_of rate 1 decisions steps) u least
         → IsNearest (pairs_of rate full (map (λ decision. full * decision) decisions) steps) u (full * least) }
