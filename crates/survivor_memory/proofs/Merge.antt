@@ -10,7 +10,7 @@ use Rattle.survivor_memory.proofs.Order.{not_after_push, comes_before_push, come
 
 -- the survivor of a state: of the lists that lead to it, the first of least cost
 abbrev pub IsSurvivor : ℕ → ℕ → List PairCosts → List ℕ → ℕ → Type 0
-IsSurvivor n s pairs u least = IsFirstOfLeast (LeadsTo n s) pairs u least
+IsSurvivor n s pairs u least = IsFirstOfLeast (LeadsTo n s) (cost pairs) u least
 
 -- a list to a state one pair on, cut before its last input
 record Longer (n s : ℕ) (pairs : List PairCosts) (pair : PairCosts) (w : List ℕ) : Type 0 where

@@ -109,8 +109,8 @@ not_both_before u v one other =
     ]
 
 -- of a kind there is one first list of least cost, and one least cost
-pub one_first : (IsOfKind : List ℕ → Type 0) (pairs : List PairCosts) (u v : List ℕ) (d e : ℕ) → IsFirstOfLeast IsOfKind pairs u d → IsFirstOfLeast IsOfKind pairs v e → (u ≡ v) × (d ≡ e)
-one_first IsOfKind pairs u v d e first second =
+pub one_first : (IsOfKind : List ℕ → Type 0) (measure : List ℕ → ℕ) (u v : List ℕ) (d e : ℕ) → IsFirstOfLeast IsOfKind measure u d → IsFirstOfLeast IsOfKind measure v e → (u ≡ v) × (d ≡ e)
+one_first IsOfKind measure u v d e first second =
     let same : d ≡ e = omega (arith, first.none_less v second.of_kind, second.none_less u first.of_kind, first.costs, second.costs) in (
       elim (first.comes_first v second.of_kind (omega (arith, second.costs))) [
         | inl e ↦ e

@@ -13,12 +13,12 @@ pub record ComesBefore (u v : List ℕ) : Type 0 where
   pub one : slice_index v place ≡ 1
   pub same_behind : (later : ℕ) → place < later → later < length u → slice_index u later ≡ slice_index v later
 
--- a list costs so much, which is the least cost of the lists of one kind; and of those of that cost it comes first
-pub record IsFirstOfLeast (IsOfKind : List ℕ → Type 0) (pairs : List PairCosts) (u : List ℕ) (least : ℕ) : Type 0 where
+-- a list of one kind has the least measure of all lists of its kind, and of those that have it comes first
+pub record IsFirstOfLeast (IsOfKind : List ℕ → Type 0) (measure : List ℕ → ℕ) (u : List ℕ) (least : ℕ) : Type 0 where
   pub of_kind : IsOfKind u
-  pub costs : cost pairs u ≡ least
-  pub none_less : (v : List ℕ) → IsOfKind v → least ≤ cost pairs v
-  pub comes_first : (v : List ℕ) → IsOfKind v → cost pairs v ≡ least → (u ≡ v) ⊎ ComesBefore u v
+  pub costs : measure u ≡ least
+  pub none_less : (v : List ℕ) → IsOfKind v → least ≤ measure v
+  pub comes_first : (v : List ℕ) → IsOfKind v → measure v ≡ least → (u ≡ v) ⊎ ComesBefore u v
 
 -- a list of so many bits, the last six of which are 0
 pub record IsClosed (count : ℕ) (u : List ℕ) : Type 0 where
@@ -26,6 +26,10 @@ pub record IsClosed (count : ℕ) (u : List ℕ) : Type 0 where
   pub bits : AreBits u
   pub tail : (place : ℕ) → place < count → count ≤ place + 6 → slice_index u place ≡ 0
 
+-- the nearest list by a measure, among the lists of so many bits that end in six zeros, and its measure
+abbrev pub IsNearestBy : (List ℕ → ℕ) → ℕ → List ℕ → ℕ → Type 0
+IsNearestBy measure count u least = IsFirstOfLeast (IsClosed count) measure u least
+
 -- the nearest list to pairs of marks, and its cost
 abbrev pub IsNearest : List PairCosts → List ℕ → ℕ → Type 0
-IsNearest pairs u least = IsFirstOfLeast (IsClosed (length pairs)) pairs u least
+IsNearest pairs u least = IsNearestBy (cost pairs) (length pairs) u least

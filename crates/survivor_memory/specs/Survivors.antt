@@ -4,7 +4,7 @@ use Rattle.std.specs.Int.{bit_at}
 use Rattle.bit_lists.specs.Bits.{AreBits}
 use Rattle.conv_code.specs.Trellis.{state_before}
 use Rattle.survivor_memory.specs.declared.PairCosts.{PairCosts}
-use Rattle.survivor_memory.specs.Costs.{IsLight}
+use Rattle.survivor_memory.specs.Costs.{IsLight, cost}
 use Rattle.survivor_memory.specs.Nearest.{IsFirstOfLeast}
 
 -- what a memory shows: an entry for each state, the base of all entries, the back bits of each pair held, the first pair's
@@ -35,7 +35,7 @@ pub record Holds (memory : MemoryView) (pairs : List PairCosts) : Type 0 where
   -- a state that some list leads to: its entry and the base are the least cost of those lists, and its back bits give the
   -- first of those of that cost
   pub survivors : (state : ℕ) (u : List ℕ) → LeadsTo (length pairs) state u
-      → IsFirstOfLeast (LeadsTo (length pairs) state) pairs (followed memory.rows (length pairs) state) (slice_index memory.entries state + memory.base)
+      → IsFirstOfLeast (LeadsTo (length pairs) state) (cost pairs) (followed memory.rows (length pairs) state) (slice_index memory.entries state + memory.base)
   -- any other state
   pub no_list : (state : ℕ) → state < 64 → ((u : List ℕ) → ¬ LeadsTo (length pairs) state u) → slice_index memory.entries state ≡ 255
   -- the least entry is 0
