@@ -1,4 +1,5 @@
--- Potentials (own): a number for each phase and state. The phase of a place is the place modulo the code rate's period.
+-- Potentials (own): a number for each phase and state. The phase of a place of a list is the place modulo the code rate's
+-- period (IEEE Std 802.11-2012, 18.3.5.6).
 use Rattle.std.specs.Prelude.{ℕ, ◌+◌, ◌*◌, ◌%◌, ◌<◌, ◌≤◌, ◌≡◌, List, slice_index, if◌then◌else◌}
 use Rattle.rate_table.specs.declared.CodeRate.{CodeRate}
 use Rattle.rate_table.specs.declared.CodeRate.TheVariants.{Half, TwoThirds, ThreeQuarters}
@@ -11,7 +12,8 @@ use Rattle.kept_weights.specs.Weights.{least_weight}
 -- the kept weight of a branch in a phase: the ones among its kept bits
 abbrev pub branch_weight : CodeRate → ℕ → ℕ → ℕ → ℕ
 branch_weight rate phase state bit =
-    (if is_kept rate (2 * phase) then branch_a state bit else 0) + (if is_kept rate (2 * phase + 1) then branch_b state bit else 0)
+    (if is_kept rate (2 * phase) then branch_a state bit else 0)
+        + (if is_kept rate (2 * phase + 1) then branch_b state bit else 0)
 
 -- the phase after a phase
 abbrev pub next_phase : CodeRate → ℕ → ℕ
@@ -28,11 +30,12 @@ pub record IsPotential (rate : CodeRate) (number : ℕ → ℕ → ℕ) : Type 0
   pub first_one : (phase : ℕ) → phase < period_of rate
       → least_weight rate ≤ branch_weight rate phase 0 1 + number (next_phase rate phase) 1
 
--- the potential of each code rate, from its table
+-- the potential of a code rate, as a table
 abbrev pub table_of : CodeRate → List ℕ
 table_of Half = HALF
 table_of TwoThirds = TWO_THIRDS
 table_of ThreeQuarters = THREE_QUARTERS
 
+-- its number for a phase and a state
 unfoldable pub potential_of : CodeRate → ℕ → ℕ → ℕ
 potential_of rate phase state = slice_index (table_of rate) (64 * phase + state)
