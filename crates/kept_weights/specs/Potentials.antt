@@ -13,7 +13,7 @@ use Rattle.kept_weights.specs.Weights.{least_weight}
 abbrev pub branch_weight : CodeRate → ℕ → ℕ → ℕ → ℕ
 branch_weight rate phase state bit =
     (if is_kept rate (2 * phase) then branch_a state bit else 0)
-        + (if is_kept rate (2 * phase + 1) then branch_b state bit else 0)
+    + (if is_kept rate (2 * phase + 1) then branch_b state bit else 0)
 
 -- the phase after a phase
 abbrev pub next_phase : CodeRate → ℕ → ℕ
