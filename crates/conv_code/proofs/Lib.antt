@@ -1,4 +1,4 @@
-mod Coded
+pub mod Coded
 mod ExclusiveOr
 pub mod Inputs
 mod Linear
