@@ -3,6 +3,8 @@
 #![tactic(auto)]
 
 pub mod laws;
+#[cfg(test)]
+mod tests;
 
 ghost use Rattle.std.specs.Prelude.{◌≡◌, ◌+◌, ◌<◌, ◌≤◌, List, [], ◌∷◌, ◌++◌, length, IfOk};
 ghost use Rattle.modem_ports.specs.Counts.{raised_by};
