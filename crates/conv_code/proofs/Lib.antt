@@ -1,4 +1,4 @@
 pub mod Coded
 mod ExclusiveOr
 pub mod Inputs
-mod Linear
+pub mod Linear
