@@ -10,4 +10,4 @@ mod Reached
 mod Spread
 mod Stepping
 mod Starting
-mod Sums
+pub mod Sums

@@ -1,0 +1,8 @@
+use Rattle.std.proofs.Common.{map}
+use Rattle.viterbi_lanes.specs.Marks.{costs_of}
+use Rattle.viterbi_lanes.proofs.Distances.{nearest_by_distance}
+use Rattle.viterbi_lanes.proofs.Trellis.finish.Goals as goal
+
+pub returns-clause-nearest : goal.returns-clause-nearest
+returns-clause-nearest c = λ marks stands.
+    nearest_by_distance marks c.finish.new.out c.finish.result (c.finish.ensures.nearest (map costs_of marks) (rw (← c.self.view_is) at stands))
