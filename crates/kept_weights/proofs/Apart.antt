@@ -37,6 +37,7 @@ closed-exclusive_ors n u w cu cw =
       tail = λ place within last. slice_index-exclusive_ors u w same place ∙ rw (cu.tail place within last, cw.tail place within last);
     }
 
+-- bits whose exclusive or is 0
 same_bits : (a b : ℕ) → IsBit a → IsBit b → exclusive_or a b ≡ 0 → a ≡ b
 same_bits a b p q e = omega arith
 
@@ -69,6 +70,7 @@ kept_code-exclusive_ors rate n u w long_u long_w k within =
     ∙ slice_index-exclusive_ors (code_of u) (code_of w) codes_same place
     ∙ rw (kept_code_at rate u n k long_u within, kept_code_at rate w n k long_w within)
 
+-- their exclusive or is 1 where they differ
 one_where_other : (a b : ℕ) → IsBit a → IsBit b → ◌≡◌ {A = ℕ} (cond (exclusive_or a b == 1) 1 0) (cond (not (a == b)) 1 0)
 one_where_other zero zero p q = refl
 one_where_other zero (suc zero) p q = refl
@@ -96,6 +98,7 @@ same_or_far rate n u w cu cw =
       | inr heavy ↦ (let weight = kept_weight-exclusive_ors rate n u w cu.long cw.long in inr (rw weight at heavy))
     ]
 
+-- so other lists are so far apart
 pub far_where_other : (rate : CodeRate) (n : ℕ) (u w : List ℕ) → IsClosed n u → IsClosed n w → (u ≡ w → ⊥) → least_weight rate ≤ distance_over (kept_count rate n) (kept_code rate u) (kept_code rate w)
 far_where_other rate n u w cu cw other =
     elim (same_or_far rate n u w cu cw) [ inl same ↦ absurd (other same) | inr far ↦ far ]

@@ -31,6 +31,7 @@ by_bit cost_for zero h = refl
 by_bit cost_for (suc zero) h = refl
 by_bit cost_for (suc (suc bit)) h = absurd (omega arith)
 
+-- the price of a pair is what its two marks cost
 price_of_pair : (rate : CodeRate) (full : ℕ) (decisions : List ℕ) (i a b : ℕ) → IsBit a → IsBit b → price (pair_of rate full decisions i) a b ≡ mark_cost rate full decisions (2 * i) a + mark_cost rate full decisions (2 * i + 1) b
 unfolding price pair_of
 price_of_pair rate full decisions i a b p q =
@@ -61,6 +62,7 @@ cost-over_kept_code rate full n decisions u long =
     ∙ ap (λ m. sum_below (λ k. g k (slice_index (kept_code rate u) k)) (kept_count rate m)) long
     ∙ sym (cost_of_decisions-by_places full decisions (kept_count rate n) (kept_code rate u))
 
+-- a hard decision costs 1 for the other bit
 hard_cost : (v b : ℕ) → IsBit v → IsBit b → decision_cost 1 v b ≡ cond (not (b == v)) 1 0
 hard_cost zero zero p q = refl
 hard_cost zero (suc zero) p q = refl

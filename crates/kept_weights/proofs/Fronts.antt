@@ -25,12 +25,14 @@ earlier-take n u i steps within =
       | inr inside ↦ rw (earlier_inside (take n u) i steps inside, earlier_inside u i steps inside) (get_or-take n u (i - steps) 0 (omega arith))
     ]
 
+-- and so are the parities
 parity_a-take : (n : ℕ) (u : List ℕ) (i : ℕ) → i < n → parity_a (take n u) i ≡ parity_a u i
 unfolding parity_a
 parity_a-take n u i within =
     let at : (steps : ℕ) → earlier (take n u) i steps ≡ earlier u i steps = λ steps. earlier-take n u i steps within in
     rw (at 0, at 2, at 3, at 5, at 6)
 
+-- B as A
 parity_b-take : (n : ℕ) (u : List ℕ) (i : ℕ) → i < n → parity_b (take n u) i ≡ parity_b u i
 unfolding parity_b
 parity_b-take n u i within =
@@ -83,10 +85,12 @@ rank_below rate n place within kept =
     let more : rank rate (place + 1) ≡ rank rate place + 1 = rank_more rate place ∙ ap (λ b. rank rate place + cond b 1 0) kept in
     omega arith
 
+-- so a mark that is below them is that of the first decisions
 mark_cost-take : (rate : CodeRate) (full n : ℕ) (decisions : List ℕ) (place bit : ℕ) → place < 2 * n → mark_cost rate full (take (kept_count rate n) decisions) place bit ≡ mark_cost rate full decisions place bit
 mark_cost-take rate full n decisions place bit within =
     cond_same (is_kept rate place) _ _ (λ kept. ap (λ decision. decision_cost full decision bit) (get_or-take (kept_count rate n) decisions (rank rate place) 0 (rank_below rate n place within kept)))
 
+-- and so is a pair
 pair_of-take : (rate : CodeRate) (full n : ℕ) (decisions : List ℕ) (i : ℕ) → i < n → pair_of rate full (take (kept_count rate n) decisions) i ≡ pair_of rate full decisions i
 unfolding pair_of
 pair_of-take rate full n decisions i within =

@@ -38,11 +38,13 @@ state_below u n bits =
     let at : (steps : ℕ) → IsBit (earlier u n steps) = λ steps. IsBit-earlier u n steps bits in
     omega (arith, at 1, at 2, at 3, at 4, at 5, at 6)
 
+-- the phase of a place is below the period
 phase_below : (rate : CodeRate) (i : ℕ) → i % period_of rate < period_of rate
 phase_below Half i = omega arith
 phase_below TwoThirds i = omega arith
 phase_below ThreeQuarters i = omega arith
 
+-- and that of the next place is the next phase
 phase_more : (rate : CodeRate) (i : ℕ) → next_phase rate (i % period_of rate) ≡ suc i % period_of rate
 phase_more Half i = omega arith
 phase_more TwoThirds i = omega arith
@@ -77,6 +79,7 @@ pub IsBit-at : (u : List ℕ) (k : ℕ) → AreBits u → IsBit (slice_index u k
 IsBit-at u k bits =
     elim (cases_lt k (length u)) [ inl within ↦ bits k 0 within | inr past ↦ rw (get_or_past u k 0 past) (omega arith) ]
 
+-- one place more
 zero_more : (u : List ℕ) (n : ℕ) → ZeroBelow n u → slice_index u n ≡ 0 → ZeroBelow (suc n) u
 zero_more u n zeros here place below =
     elim (cases_lt place n) [

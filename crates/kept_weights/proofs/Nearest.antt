@@ -12,6 +12,7 @@ use Rattle.kept_weights.specs.Decisions.{pair_of, pairs_of, cost_of_decisions, r
 use Rattle.kept_weights.proofs.Apart.{same_or_far, AreBits-kept_code}
 use Rattle.kept_weights.proofs.Costs.{cost-over_kept_code, cost-hard, costs_by_distance}
 
+-- a pair for each step
 pub length-pairs_of : (rate : CodeRate) (full n : ℕ) (decisions : List ℕ) → length (pairs_of rate full decisions n) ≡ n
 length-pairs_of rate full n decisions = length-map-range_with_len (pair_of rate full decisions) 0 n
 
@@ -60,10 +61,12 @@ cheap_where_few : (rate : CodeRate) (n : ℕ) (decisions w : List ℕ) → AreBi
 cheap_where_few rate n decisions w bits cw few =
     rw (cost-hard rate n decisions w cw.long bits) (few_changes rate _ few)
 
+-- so the list is the nearest
 pub flips_repaired : (rate : CodeRate) (n least : ℕ) (decisions u w : List ℕ) → AreBits decisions → IsClosed n w → distance_over (kept_count rate n) (kept_code rate w) decisions ≤ repaired_changes rate → IsNearest (pairs_of rate 1 decisions n) u least → u ≡ w
 flips_repaired rate n least decisions u w bits cw few =
     cheap_is_nearest rate 1 n least decisions u w cw (cheap_where_few rate n decisions w bits cw few)
 
+-- and its cost is the number of changes
 pub flips_counted : (rate : CodeRate) (n least : ℕ) (decisions u w : List ℕ) → AreBits decisions → IsClosed n w → distance_over (kept_count rate n) (kept_code rate w) decisions ≤ repaired_changes rate → IsNearest (pairs_of rate 1 decisions n) u least → least ≡ distance_over (kept_count rate n) (kept_code rate w) decisions
 flips_counted rate n least decisions u w bits cw few nearest =
     cheap_cost_is_least rate 1 n least decisions u w cw (cheap_where_few rate n decisions w bits cw few) nearest
@@ -74,10 +77,12 @@ cheap_where_small : (rate : CodeRate) (n : ℕ) (decisions w : List ℕ) → IsC
 cheap_where_small rate n decisions w cw small =
     rw (cost-over_kept_code rate 15 n decisions w cw.long) (small_cost rate _ small)
 
+-- so the list is the nearest
 pub soft_repaired : (rate : CodeRate) (n least : ℕ) (decisions u w : List ℕ) → IsClosed n w → cost_of_decisions 15 decisions (kept_count rate n) (kept_code rate w) ≤ repaired_cost rate → IsNearest (pairs_of rate 15 decisions n) u least → u ≡ w
 soft_repaired rate n least decisions u w cw small =
     cheap_is_nearest rate 15 n least decisions u w cw (cheap_where_small rate n decisions w cw small)
 
+-- and its cost is what the decisions cost
 pub soft_cost : (rate : CodeRate) (n least : ℕ) (decisions u w : List ℕ) → IsClosed n w → cost_of_decisions 15 decisions (kept_count rate n) (kept_code rate w) ≤ repaired_cost rate → IsNearest (pairs_of rate 15 decisions n) u least → least ≡ cost_of_decisions 15 decisions (kept_count rate n) (kept_code rate w)
 soft_cost rate n least decisions u w cw small nearest =
     cheap_cost_is_least rate 15 n least decisions u w cw (cheap_where_small rate n decisions w cw small) nearest

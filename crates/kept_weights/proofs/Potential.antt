@@ -18,12 +18,14 @@ branch_test rate phase state bit = leb (potential_of rate phase state) (potentia
 abbrev test_of : CodeRate → ℕ → Bool
 test_of rate k = branch_test rate (k / 128) (k % 128 / 2) (k % 2)
 
+-- they all hold
 all_tests : (rate : CodeRate) → agree_below (test_of rate) (λ _. true) (128 * period_of rate) ≡ true
 unfolding potential_of parity_a parity_b earlier
 all_tests Half = refl
 all_tests TwoThirds = refl
 all_tests ThreeQuarters = refl
 
+-- so the test of a branch holds
 branch_holds : (rate : CodeRate) (phase state bit : ℕ) → phase < period_of rate → state < 64 → IsBit bit → branch_test rate phase state bit ≡ true
 branch_holds rate phase state bit p q r =
     let k : ℕ = 128 * phase + (2 * state + bit) in
@@ -33,18 +35,21 @@ branch_holds rate phase state bit p q r =
     let test = agree_below_at (test_of rate) (λ _. true) (128 * period_of rate) k (all_tests rate) (omega arith) in
     rw (its_phase, its_state, its_bit) at test
 
+-- the condition on the first 1, in each phase
 first_holds : (rate : CodeRate) → agree_below (λ phase. leb (least_weight rate) (branch_weight rate phase 0 1 + potential_of rate (next_phase rate phase) 1)) (λ _. true) (period_of rate) ≡ true
 unfolding potential_of parity_a parity_b earlier
 first_holds Half = refl
 first_holds TwoThirds = refl
 first_holds ThreeQuarters = refl
 
+-- the number of state 0, in each phase
 zero_holds : (rate : CodeRate) → agree_below (λ phase. leb (potential_of rate phase 0) 0) (λ _. true) (period_of rate) ≡ true
 unfolding potential_of
 zero_holds Half = refl
 zero_holds TwoThirds = refl
 zero_holds ThreeQuarters = refl
 
+-- so each table is a potential
 pub each_is_potential : (rate : CodeRate) → IsPotential rate (potential_of rate)
 each_is_potential rate = record {
   state_zero = λ phase p. (let low = leb-true _ _ (agree_below_at (λ phase. leb (potential_of rate phase 0) 0) (λ _. true) (period_of rate) phase (zero_holds rate) p) in omega (arith, low));

@@ -7,13 +7,16 @@ use Rattle.puncture_map.proofs.Counts.{kept_places-more}
 use Rattle.puncture_map.proofs.KeptBits.{kept_bits, kept_bits-kept, kept_list-take}
 use Rattle.kept_weights.proofs.Sums.{sum_below}
 
+-- the rank of a place
 abbrev pub rank : CodeRate → ℕ → ℕ
 rank rate place = length (kept_places rate place)
 
+-- a list of one number, where a test holds
 length-cond : (b : Bool) (n : ℕ) → length (cond b (n ∷ []) []) ≡ cond b 1 0
 length-cond true n = refl
 length-cond false n = refl
 
+-- the rank of the next place
 pub rank_more : (rate : CodeRate) (n : ℕ) → rank rate (n + 1) ≡ rank rate n + cond (is_kept rate n) 1 0
 rank_more rate n =
     ap length (kept_places-more rate n)

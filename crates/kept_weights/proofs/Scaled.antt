@@ -19,11 +19,13 @@ use Rattle.kept_weights.proofs.Nearest.{length-pairs_of}
 abbrev pub scaled : ℕ → List ℕ → List ℕ
 scaled full decisions = map (λ decision. full * decision) decisions
 
+-- place by place
 scaled_at : (full : ℕ) (decisions : List ℕ) (k : ℕ) → slice_index (scaled full decisions) k ≡ full * slice_index decisions k
 scaled_at full decisions k =
     let none : full * 0 ≡ 0 = omega arith in
     rw none at (get_or-map (λ decision. full * decision) decisions k 0)
 
+-- what such a decision costs
 scaled_cost : (full v b : ℕ) → IsBit v → IsBit b → decision_cost full (full * v) b ≡ full * decision_cost 1 v b
 scaled_cost full zero zero p q = refl
 scaled_cost full zero (suc zero) p q = omega arith
@@ -32,10 +34,12 @@ scaled_cost full (suc zero) (suc zero) p q = omega arith
 scaled_cost full (suc (suc v)) b p q = absurd (omega arith)
 scaled_cost full v (suc (suc b)) p q = absurd (omega arith)
 
+-- a sum of multiples
 sum_below-times : (times : ℕ) (f : ℕ → ℕ) (n : ℕ) → sum_below (λ k. times * f k) n ≡ times * sum_below f n
 sum_below-times times f zero = omega arith
 sum_below-times times f (suc n) = let before = sum_below-times times f n in omega arith
 
+-- so many times the cost over hard decisions
 cost_of_scaled : (full n : ℕ) (decisions bits : List ℕ) → AreBits decisions → AreBits bits → cost_of_decisions full (scaled full decisions) n bits ≡ full * cost_of_decisions 1 decisions n bits
 cost_of_scaled full n decisions bits p q =
     let hard = λ (k : ℕ). decision_cost 1 (slice_index decisions k) (slice_index bits k) in
@@ -51,6 +55,7 @@ cost-scaled rate full n decisions u bits long =
     ∙ cost_of_scaled full (kept_count rate n) decisions (kept_code rate u) bits (AreBits-kept_code rate u)
     ∙ ap (λ s. full * s) (sym (cost-over_kept_code rate 1 n decisions u long))
 
+-- a factor that is not 0 falls away
 times_same : (full a b : ℕ) → 0 < full → full * a ≡ full * b → a ≡ b
 times_same full a b some same =
     let up : a ≤ b = le_of_mul-le-mul_left (omega arith) some in

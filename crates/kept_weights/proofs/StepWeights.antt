@@ -49,6 +49,7 @@ sum_over_steps rate g u =
 abbrev pub step_weight : CodeRate → List ℕ → ℕ → ℕ
 step_weight rate u i = cond (is_kept rate (2 * i)) (parity_a u i) 0 + cond (is_kept rate (2 * i + 1)) (parity_b u i) 0
 
+-- a bit counts itself
 one_if : (a : ℕ) → IsBit a → cond (a == 1) 1 0 ≡ a
 one_if zero h = refl
 one_if (suc zero) h = refl

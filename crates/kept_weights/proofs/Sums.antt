@@ -20,6 +20,7 @@ sum_by-map-range f (suc n) =
     ∙ sum_by-map-range_with_len_more f (λ k. k) 0 n n same
     ∙ ap (λ s. s + f n) (sum_by-map-range f n)
 
+-- and so the list itself
 pub sum_by-range : (f : ℕ → ℕ) (n : ℕ) → sum_by f (range_with_len 0 n) ≡ sum_below f n
 sum_by-range f n = ap (sum_by f) (sym (map-id (range_with_len 0 n))) ∙ sum_by-map-range f n
 
@@ -32,6 +33,7 @@ sum_by-take f xs (suc n) h =
     ∙ sum_by_more f xs n 0 (omega arith)
     ∙ ap (λ s. s + f (get_or xs n 0)) (sum_by-take f xs n (omega arith))
 
+-- of the whole list
 pub sum_by-places : (f : ℕ → ℕ) (xs : List ℕ) → sum_by f xs ≡ sum_below (λ k. f (get_or xs k 0)) (length xs)
 sum_by-places f xs = ap (sum_by f) (sym (take_all (length xs) xs (omega arith))) ∙ sum_by-take f xs (length xs) (omega arith)
 
