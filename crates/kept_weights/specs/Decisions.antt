@@ -1,6 +1,7 @@
 -- The pairs of marks of decisions (own), over the kept places of the code (IEEE Std 802.11-2012, 18.3.5.6): these carry
 -- the decisions in order, and the marks of all other places are absent. A decision v, from 0 to a number that is called
--- full, costs v for the bit 0 and full - v for the bit 1. A hard decision, 0 or 1, has full 1; a soft one, 0 to 15, has 15.
+-- full, costs v for the bit 0 and full - v for the bit 1. Hard decisions, 0 or 1, have full 1; soft ones, 0 to 15, have
+-- full 15.
 use Rattle.std.specs.Prelude.{ℕ, ◌+◌, ◌-◌, ◌*◌, ◌==◌, List, length, map, slice_index, if◌then◌else◌}
 use Rattle.std.specs.List.{range_with_len, sum_by}
 use Rattle.rate_table.specs.declared.CodeRate.{CodeRate}

@@ -1,5 +1,5 @@
--- Potentials (own): a number for each phase and state. The phase of a place of a list is the place modulo the code rate's
--- period (IEEE Std 802.11-2012, 18.3.5.6).
+-- Potentials (own): a number for each phase and state. The phase of a place of a list is the place modulo the period
+-- of the code rate (IEEE Std 802.11-2012, 18.3.5.6).
 use Rattle.std.specs.Prelude.{ℕ, ◌+◌, ◌*◌, ◌%◌, ◌<◌, ◌≤◌, ◌≡◌, List, slice_index, if◌then◌else◌}
 use Rattle.rate_table.specs.declared.CodeRate.{CodeRate}
 use Rattle.rate_table.specs.declared.CodeRate.TheVariants.{Half, TwoThirds, ThreeQuarters}

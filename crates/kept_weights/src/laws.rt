@@ -17,8 +17,8 @@ pub fn potentials()
     ensures { (rate : CodeRate) → IsPotential rate (potential_of rate) }
 {}
 
-/// A list that ends in six zeros and has a 1 has at least the least kept weight, wherever in a period its first 1 stands
-/// (own).
+/// A list that ends in six zeros and has a 1 has at least the least kept weight, wherever in a period its first 1
+/// stands (own).
 pub fn least_kept_weight()
     ensures { (rate : CodeRate) (steps : ℕ) (u : List ℕ) → IsClosed steps u
         → (place : ℕ) → slice_index u place ≡ 1 → least_weight rate ≤ kept_weight rate u }
@@ -30,8 +30,8 @@ pub fn least_distance()
         → least_weight rate ≤ distance_over (kept_count rate steps) (kept_code rate u) (kept_code rate w) }
 {}
 
-/// What a list costs against the pairs of marks of decisions: the sum over its kept code, which for hard decisions is the
-/// number of them that differ from it (own).
+/// What a list costs against the pairs of marks of decisions: the sum over its kept code, which for hard decisions is
+/// the number of them that differ from it (own).
 pub fn cost_over_kept_places()
     ensures sum { (rate : CodeRate) (full steps : ℕ) (decisions u : List ℕ) → length u ≡ steps
         → cost (pairs_of rate full decisions steps) u
@@ -41,8 +41,8 @@ pub fn cost_over_kept_places()
         ≡ distance_over (kept_count rate steps) (kept_code rate u) decisions }
 {}
 
-/// A list that ends in six zeros, and costs less than half of what the least kept weight can cost, is the nearest list
-/// (own).
+/// A list that ends in six zeros, and costs less than half of what the least kept weight can cost, is the nearest
+/// list (own).
 pub fn cheap_list_is_nearest()
     ensures list { (rate : CodeRate) (full steps least : ℕ) (decisions u w : List ℕ) → IsClosed steps w
         → 2 * cost (pairs_of rate full decisions steps) w < full * least_weight rate
@@ -53,8 +53,8 @@ pub fn cheap_list_is_nearest()
         → least ≡ cost (pairs_of rate full decisions steps) w }
 {}
 
-/// Flips are repaired: where at most 4 hard decisions at rate 1/2, or 2 at 2/3 and 3/4, differ from the kept code of a list
-/// that ends in six zeros, it is the nearest list, and its cost is the number of those that differ (own).
+/// Flips are repaired: where at most 4 hard decisions at rate 1/2, or 2 at 2/3 and 3/4, differ from the kept code of a
+/// list that ends in six zeros, it is the nearest list, and its cost is the number of those that differ (own).
 pub fn flips_are_repaired()
     ensures list { (rate : CodeRate) (steps least : ℕ) (decisions u w : List ℕ) → AreBits decisions
         → IsClosed steps w
@@ -98,8 +98,8 @@ pub fn pairs_of_decisions()
         → pairs_of rate full (take (kept_count rate steps) decisions) steps ≡ pairs_of rate full decisions steps }
 {}
 
-/// Decisions that are all 0 or full cost so many times what the hard decisions 0 and 1 cost, and have the same nearest list
-/// (own).
+/// Decisions that are all 0 or full cost so many times what the hard decisions 0 and 1 cost, and have the same nearest
+/// list (own).
 pub fn full_decisions_are_hard()
     ensures cost { (rate : CodeRate) (full steps : ℕ) (decisions u : List ℕ) → AreBits decisions → length u ≡ steps
         → cost (pairs_of rate full (map (λ decision. full * decision) decisions) steps) u

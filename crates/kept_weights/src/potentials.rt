@@ -1,5 +1,5 @@
-//! The potentials (own): for each phase of a period and each of the 64 states, the least kept weight of a path from there
-//! to state 0.
+//! The potentials (own): for each phase of a period and each of the 64 states, the least kept weight of a path from
+//! there to state 0.
 
 /// The potential at rate 1/2.
 pub const HALF: [u8; 64] = [
