@@ -4,7 +4,7 @@ mod Closing
 mod Holding
 mod Leading
 mod Merge
-mod Order
+pub mod Order
 mod Prefixes
 mod Reached
 mod Spread

@@ -5,7 +5,6 @@ use Rattle.std.proofs.lemmas.Bool.{cases_lt, cases_eq}
 use Rattle.std.proofs.lemmas.List.{length_push, get_or_push, get_or_append_left, get_or_past}
 use Rattle.conv_code.specs.Code.{earlier}
 use Rattle.conv_code.proofs.Inputs.{BitsOfState, bits_of_state_before, earlier_before, earlier_inside}
-use Rattle.survivor_memory.specs.declared.PairCosts.{PairCosts}
 use Rattle.survivor_memory.specs.Nearest.{ComesBefore, IsFirstOfLeast}
 use Rattle.survivor_memory.specs.Survivors.{LeadsTo}
 

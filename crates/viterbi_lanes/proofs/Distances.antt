@@ -1,19 +1,17 @@
 -- The distance of a list is its cost.
-use Rattle.std.proofs.Common.{◌≡◌, ℕ, zero, suc, ◌+◌, ◌<◌, ◌≤◌, List, [], ◌∷◌, Bool, true, false, cond, length, map, max, refl, sym, ◌∙◌, inl, inr, arith}
-use Rattle.std.specs.Prelude.{All, count_by, ◌==◌, if◌then◌else◌}
-use Rattle.std.specs.List.{flat_map, range_with_len, sum_by, zip}
+use Rattle.std.proofs.Common.{◌≡◌, ℕ, zero, suc, ◌+◌, ◌≤◌, List, [], ◌∷◌, true, false, cond, length, map, refl, sym, ◌∙◌, arith}
+use Rattle.std.specs.Prelude.{count_by, ◌==◌, if◌then◌else◌}
+use Rattle.std.specs.List.{flat_map, range_with_len, zip}
 use Rattle.std.proofs.lemmas.List.{length-map}
 use Rattle.std.proofs.lemmas.List.Sums.{sum_by-cons}
 use Rattle.std.proofs.lemmas.List.Elements.{All-map}
 use Rattle.bit_lists.specs.Bits.{IsBit}
-use Rattle.conv_code.specs.Code.{parity_a, parity_b, parities, code_of}
+use Rattle.conv_code.specs.Code.{parity_a, parity_b, parities}
 use Rattle.conv_code.proofs.Coded.{IsBit-parity_a, IsBit-parity_b}
-use Rattle.survivor_memory.specs.declared.PairCosts.{PairCosts}
 use Rattle.survivor_memory.specs.Costs.{price, cost, most_cost, CostAtMost}
-use Rattle.survivor_memory.specs.Nearest.{IsClosed, IsNearest}
+use Rattle.survivor_memory.specs.Nearest.{IsNearest}
 use Rattle.survivor_memory.proofs.Sums.{cost_from, cost_from-nil, cost_from-cons, cost_is}
 use Rattle.viterbi_lanes.specs.declared.Mark.{Mark}
-use Rattle.viterbi_lanes.specs.declared.Mark.TheVariants.{Zero, One, Absent}
 use Rattle.viterbi_lanes.specs.Marks.{by_place, cost_at, costs_of, differs, distance, IsNearestTo}
 
 -- what a mark costs at a bit

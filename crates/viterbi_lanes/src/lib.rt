@@ -6,10 +6,12 @@ pub mod laws;
 #[cfg(test)]
 mod tests;
 
-ghost use Rattle.std.specs.Prelude.{◌≡◌, ◌+◌, ◌<◌, ◌≤◌, List, [], ◌∷◌, ◌++◌, length, IfOk};
+ghost use Rattle.std.specs.Prelude.{◌≡◌, ℕ, ◌+◌, ◌<◌, ◌≤◌, List, [], ◌∷◌, ◌++◌, length, IfOk};
 ghost use Rattle.modem_ports.specs.Counts.{raised_by};
+ghost use Rattle.rate_table.specs.declared.CodeRate.{CodeRate};
 ghost use Rattle.survivor_memory.specs.Survivors.{AreEntries, DifferByAtMost};
 ghost use Rattle.viterbi_lanes.specs.declared.Mark.{Mark};
+ghost use Rattle.viterbi_lanes.specs.Decisions.{AreNearlyKeptCode, changes, marks_of};
 ghost use Rattle.viterbi_lanes.specs.Marks.{IsNearestTo, StandsFor, cost_at, costs_of};
 
 use modem_ports::Steps;
@@ -99,6 +101,11 @@ impl Trellis {
         requires enough { 6 ≤ length self.old.rows }
         requires places { length out.old ≡ length self.old.rows }
         ensures nearest { (marks : List (Mark × Mark)) → StandsFor self.old marks → IsNearestTo marks out.new result }
+
+        // a list that ends in six zeros, of whose kept code few bits were changed, is found again
+        ensures found_again { (rate : CodeRate) (steps : ℕ) (u decisions : List ℕ)
+            → StandsFor self.old (marks_of rate decisions steps) → AreNearlyKeptCode rate steps u decisions
+            → (out.new ≡ u) × (result ≡ changes rate steps u decisions) }
         ensures stands { StandsFor self.new [] }
         ensures entries { AreEntries self.new.entries }
         ensures room { self.new.room ≡ self.old.room }

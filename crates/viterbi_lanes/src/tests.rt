@@ -11,12 +11,7 @@ use std::process::Abort;
 use std::test::Fail;
 
 // The nearest list to marks by the trellis, and its distance.
-fn nearest(
-    trellis: &mut Trellis,
-    marks: &[(Mark, Mark)],
-    steps: &mut Steps,
-    out: &mut [u8],
-) -> u32
+fn nearest(trellis: &mut Trellis, marks: &[(Mark, Mark)], steps: &mut Steps, out: &mut [u8]) -> u32
     requires empty { StandsFor trellis.old [] }
     requires enough { 6 ≤ length marks.now }
     requires room { length marks.now ≤ trellis.old.room }
@@ -42,11 +37,7 @@ fn cost(mark: Mark, bit: u8) -> u32
 }
 
 // The same by a plain decoder, with a number of 32 bits for each state.
-fn plain(
-    alloc: Global,
-    marks: &[(Mark, Mark)],
-    out: &mut [u8],
-) -> Result<u32, AllocError>
+fn plain(alloc: Global, marks: &[(Mark, Mark)], out: &mut [u8]) -> Result<u32, AllocError>
     requires { length out.old ≡ length marks.now }
 {
     let mut distances = [u32::MAX; 64];
@@ -182,7 +173,10 @@ fn nearest_lists(rt: HostRuntime) -> Result<(), Fail> {
     assert_eq!(rt; trellis.held(), 1);
     trellis.start();
     let mut out = [2; 6];
-    assert_eq!(rt; nearest(&mut trellis, &[(none, none); 6], &mut steps, &mut out), 0);
+    assert_eq!(rt;
+        nearest(&mut trellis, &[(none, none); 6], &mut steps, &mut out),
+        0
+    );
     assert_eq!(rt; out, [0; 6]);
     assert_eq!(rt; steps.count(), 19);
     assert_eq!(rt; trellis.room(), 12);
