@@ -1,4 +1,4 @@
-mod Coded
+pub mod Coded
 mod ExclusiveOr
-mod Inputs
-mod Linear
+pub mod Inputs
+pub mod Linear

@@ -11,11 +11,11 @@ use Rattle.conv_code.proofs.Inputs.{earlier_before, earlier_inside}
 use Rattle.conv_code.proofs.Coded.{Codes-code_of}
 
 -- as long as the first list
-length-exclusive_ors : (u v : List ℕ) → length (exclusive_ors u v) ≡ length u
+pub length-exclusive_ors : (u v : List ℕ) → length (exclusive_ors u v) ≡ length u
 length-exclusive_ors u v = length-map-range_with_len (λ i. exclusive_or (slice_index u i) (slice_index v i)) 0 (length u)
 
 -- at each place, and past the end, where all is 0
-slice_index-exclusive_ors : (u v : List ℕ) → length u ≡ length v → (k : ℕ) → slice_index (exclusive_ors u v) k ≡ exclusive_or (slice_index u k) (slice_index v k)
+pub slice_index-exclusive_ors : (u v : List ℕ) → length u ≡ length v → (k : ℕ) → slice_index (exclusive_ors u v) k ≡ exclusive_or (slice_index u k) (slice_index v k)
 slice_index-exclusive_ors u v same k =
     elim (cases_lt k (length u)) [
       | inl within ↦ get_or-map-range_with_len (λ i. exclusive_or (slice_index u i) (slice_index v i)) 0 (length u) k k 0 within (omega arith)

@@ -1,0 +1,10 @@
+pub mod Apart
+pub mod Costs
+pub mod Fronts
+pub mod Heavy
+pub mod Nearest
+pub mod Potential
+pub mod Ranks
+pub mod Scaled
+pub mod StepWeights
+pub mod Sums

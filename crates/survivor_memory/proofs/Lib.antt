@@ -1,0 +1,13 @@
+mod Branches
+mod ByLanes
+mod Closing
+mod Holding
+mod Leading
+mod Merge
+pub mod Order
+mod Prefixes
+mod Reached
+mod Spread
+mod Stepping
+mod Starting
+pub mod Sums

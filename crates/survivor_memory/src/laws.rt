@@ -1,0 +1,18 @@
+//! What holds of nearest lists and of survivor memories. Its functions do nothing: what each ensures is the law.
+ghost use Rattle.std.specs.Prelude.{◌≡◌, ℕ, ◌*◌, ◌≤◌, List, length};
+ghost use Rattle.survivor_memory.specs.declared.PairCosts.{PairCosts};
+ghost use Rattle.survivor_memory.specs.Costs.{CostAtMost};
+ghost use Rattle.survivor_memory.specs.Nearest.{IsNearest};
+ghost use Rattle.survivor_memory.specs.Survivors.{DifferByAtMost, Holds, MemoryView};
+
+/// Pairs have at most one nearest list, and one least cost (own).
+pub fn one_nearest()
+    ensures { (pairs : List PairCosts) (u v : List ℕ) (d e : ℕ) → IsNearest pairs u d → IsNearest pairs v e
+        → (u ≡ v) × (d ≡ e) }
+{}
+
+/// Once six pairs are held, the entries of any two states differ by at most what six pairs can cost (own).
+pub fn entries_differ()
+    ensures { (memory : MemoryView) (pairs : List PairCosts) (most : ℕ) → Holds memory pairs → CostAtMost most pairs
+        → 6 ≤ length pairs → DifferByAtMost (6 * most) memory.entries }
+{}

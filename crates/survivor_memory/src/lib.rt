@@ -1,0 +1,157 @@
+//! The survivors of the 64 states of the code of rate 1/2 (IEEE Std 802.11-2012, 18.3.5.6), over pairs of marks of any
+//! costs, and the nearest list that they lead to.
+#![tactic(auto)]
+
+mod lanes;
+pub mod laws;
+#[cfg(test)]
+mod tests;
+
+ghost use Rattle.std.specs.Prelude.{◌≡◌, ℕ, ◌+◌, ◌*◌, ◌<◌, ◌≤◌, ◌^◌, List, [], ◌∷◌, ◌++◌, length, replicate, IfOk};
+ghost use Rattle.survivor_memory.specs.declared.PairCosts.{PairCosts};
+ghost use Rattle.survivor_memory.specs.Costs.{CostAtMost, IsLight};
+ghost use Rattle.survivor_memory.specs.Nearest.{IsNearest};
+ghost use Rattle.survivor_memory.specs.Survivors.{AreEntries, DifferByAtMost, Holds, followed};
+
+use std::alloc::{AllocError, Global};
+use std::marker::Model;
+use std::simd::prelude::*;
+
+/// What a pair of marks costs: its first mark, for A, and its second, for B, each at the bit 0 and at the bit 1 (own).
+#[derive(Clone, Copy, Debug, PartialEq, Eq)]
+pub struct PairCosts {
+    pub first_zero: u8,
+    pub first_one: u8,
+    pub second_zero: u8,
+    pub second_one: u8,
+}
+
+/// The survivors of the 64 states, over the pairs of marks that it holds (own).
+///
+/// The entry of a state and the base are the least cost of the lists that lead to it; the entry 255 stands for a state
+/// that no list leads to. A pair that is held has a row of back bits, one for each state. Only `open` takes memory.
+#[derive(Debug, Drop)]
+pub struct SurvivorMemory {
+    entries: [u8; 64],
+    base: u32,
+    rows: Vec<u64>,
+    held: usize,
+}
+
+impl Model for SurvivorMemory {
+    ghost use Rattle.std.specs.Prelude.{◌≤◌, ◌*◌, ◌^◌, take, vec_len};
+    ghost use Rattle.survivor_memory.specs.Survivors.{MemoryView};
+
+    ghost Value = { MemoryView };
+
+    ghost view = { λ m. record {
+      entries = m.entries;
+      base = m.base;
+      rows = take m.held m.rows.items;
+      room = vec_len m.rows;
+    } };
+
+    ghost invariant = { λ m. (m.held ≤ vec_len m.rows) × (vec_len m.rows ≤ 2 ^ 20) × (m.base ≤ 255 * m.held) };
+}
+
+impl SurvivorMemory {
+    /// A memory that holds no pairs, with room for so many, at most 2^20. The only error is want of memory.
+    pub fn open(alloc: Global, room: usize) -> Result<SurvivorMemory, AllocError>
+        requires { room ≤ 2 ^ 20 }
+        ensures holds { IfOk result (λ memory. Holds memory []) }
+        ensures entries { IfOk result (λ memory. AreEntries memory.entries) }
+        ensures room { IfOk result (λ memory. memory.room ≡ room) }
+    {
+        Ok(SurvivorMemory {
+            entries: entries_at_start(),
+            base: 0,
+            rows: vec![in alloc; 0u64; room]?,
+            held: 0,
+        })
+    }
+
+    /// Empties it. Takes no memory.
+    pub fn start(&mut self)
+        ensures holds { Holds self.new [] }
+        ensures entries { AreEntries self.new.entries }
+        ensures room { self.new.room ≡ self.old.room }
+    {
+        self.entries = entries_at_start();
+        self.base = 0;
+        self.held = 0;
+    }
+
+    /// Appends one pair, of which seven cost less than 255. There is room for it. Takes no memory.
+    pub fn step(&mut self, costs: PairCosts)
+        requires room { length self.old.rows < self.old.room }
+        requires light { IsLight costs }
+        ensures appended { (pairs : List PairCosts) → Holds self.old pairs → Holds self.new (pairs ++ costs ∷ []) }
+        ensures held { length self.new.rows ≡ length self.old.rows + 1 }
+        ensures entries { AreEntries self.new.entries }
+        ensures differ { (pairs : List PairCosts) (most : ℕ) → Holds self.new pairs → CostAtMost most pairs
+            → 6 ≤ length pairs → DifferByAtMost (6 * most) self.new.entries }
+        ensures room { self.new.room ≡ self.old.room }
+    {
+        let (lower, higher) = lanes::predecessors(u8x64::from_array(self.entries));
+        let lower = lanes::sums(lower, lanes::branches_from_lower(costs));
+        let higher = lanes::sums(higher, lanes::branches_from_higher(costs));
+        let best = lanes::lesser(lower, higher);
+        let least = lanes::least_of(&best.to_array());
+        self.entries = lanes::lowered(best, least).to_array();
+        self.base += u32::from(least);
+        self.rows[self.held] = lanes::second_less(lower, higher);
+        self.held += 1;
+    }
+
+    /// Writes the nearest list for the pairs held, at least 6, one bit into each place of `out`, which has one for each
+    /// pair. Answers its cost. The memory holds no pairs afterwards. Takes no memory.
+    pub fn finish(&mut self, out: &mut [u8]) -> u32
+        requires enough { 6 ≤ length self.old.rows }
+        requires places { length out.old ≡ length self.old.rows }
+        ensures nearest { (pairs : List PairCosts) → Holds self.old pairs → IsNearest pairs out.new result }
+        ensures holds { Holds self.new [] }
+        ensures entries { AreEntries self.new.entries }
+        ensures room { self.new.room ≡ self.old.room }
+    {
+        follow(&self.rows[..self.held], out);
+        let cost = self.base + u32::from(self.entries[0]);
+        self.start();
+        cost
+    }
+
+    /// How many pairs it holds. Takes no memory.
+    pub fn held(&self) -> usize
+        ensures { result ≡ length self.now.rows }
+    {
+        self.held
+    }
+
+    /// How many pairs there is room for. Takes no memory.
+    pub fn room(&self) -> usize
+        ensures { result ≡ self.now.room }
+    {
+        self.rows.len()
+    }
+}
+
+// The entries before any pair: only the empty list is there, and it leads to state 0.
+fn entries_at_start() -> [u8; 64]
+    ensures { result ≡ 0 ∷ replicate 63 255 }
+{
+    let mut entries = [255; 64];
+    entries[0] = 0;
+    entries
+}
+
+// Writes the list that rows of back bits give, followed from state 0 at their end.
+fn follow(rows: &[u64], out: &mut [u8])
+    requires { length out.old ≡ length rows.now }
+    ensures { out.new ≡ followed rows.now (length rows.now) 0 }
+{
+    let mut state = 0u8;
+    for place in (0..rows.len()).rev() {
+        out[place] = state % 2;
+        let back = (rows[place] >> state) % 2;
+        state = state / 2 + 32 * back as u8;
+    }
+}

@@ -1,0 +1,9 @@
+use Rattle.std.proofs.Common.{map, arith}
+use Rattle.std.proofs.lemmas.List.{length-map}
+use Rattle.viterbi_lanes.specs.Marks.{costs_of}
+use Rattle.viterbi_lanes.proofs.Distances.{marks_cost_at_most_2}
+use Rattle.viterbi_lanes.proofs.Trellis.step.Goals as goal
+
+pub returns-clause-differ : goal.returns-clause-differ
+returns-clause-differ c = λ marks stands some.
+    c.step.ensures.differ (map costs_of marks) 2 stands (marks_cost_at_most_2 marks) (omega (arith, length-map marks costs_of))

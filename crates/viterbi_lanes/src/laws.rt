@@ -1,0 +1,37 @@
+//! What holds of distances, of nearest lists and of the marks of decisions. The functions do nothing: what each ensures
+//! is the law.
+ghost use Rattle.std.specs.Prelude.{◌≡◌, ℕ, ◌+◌, List, [], ◌∷◌, ◌++◌, length, map};
+ghost use Rattle.bit_lists.specs.Bits.{AreBits};
+ghost use Rattle.rate_table.specs.declared.CodeRate.{CodeRate};
+ghost use Rattle.survivor_memory.specs.Costs.{cost};
+ghost use Rattle.survivor_memory.specs.Nearest.{IsNearest};
+ghost use Rattle.kept_weights.specs.Decisions.{pairs_of};
+ghost use Rattle.viterbi_lanes.specs.declared.Mark.{Mark};
+ghost use Rattle.viterbi_lanes.specs.Decisions.{changes, marks_at, marks_of};
+ghost use Rattle.viterbi_lanes.specs.Marks.{IsNearestTo, costs_of, distance};
+
+/// The distance of a list of bits to as many pairs of marks is its cost, and the nearest list is the nearest by cost (own).
+pub fn distance_is_cost()
+    ensures distance { (marks : List (Mark × Mark)) (u : List ℕ) → length u ≡ length marks
+        → distance marks u ≡ cost (map costs_of marks) u }
+    ensures nearest { (marks : List (Mark × Mark)) (u : List ℕ) (least : ℕ) → IsNearest (map costs_of marks) u least
+        → IsNearestTo marks u least }
+{}
+
+/// Pairs of marks have at most one nearest list, and one least distance (own).
+pub fn one_nearest()
+    ensures { (marks : List (Mark × Mark)) (u v : List ℕ) (d e : ℕ) → IsNearestTo marks u d → IsNearestTo marks v e
+        → (u ≡ v) × (d ≡ e) }
+{}
+
+/// The pairs of marks of decisions are made step by step, and a list's distance to them is the number of decisions that
+/// differ from its kept code (own).
+pub fn marks_of_decisions()
+    ensures none { (rate : CodeRate) (decisions : List ℕ) → marks_of rate decisions 0 ≡ [] }
+    ensures one_more { (rate : CodeRate) (decisions : List ℕ) (steps : ℕ)
+        → marks_of rate decisions (steps + 1) ≡ marks_of rate decisions steps ++ marks_at rate decisions steps ∷ [] }
+    ensures costs { (rate : CodeRate) (decisions : List ℕ) (steps : ℕ) → AreBits decisions
+        → map costs_of (marks_of rate decisions steps) ≡ pairs_of rate 1 decisions steps }
+    ensures distance { (rate : CodeRate) (u decisions : List ℕ) (steps : ℕ) → AreBits decisions → length u ≡ steps
+        → distance (marks_of rate decisions steps) u ≡ changes rate steps u decisions }
+{}
