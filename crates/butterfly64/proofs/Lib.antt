@@ -10,3 +10,5 @@ pub mod LaneOps
 pub mod EightLanes
 pub mod PairsOfEights
 pub mod Inputs
+pub mod PlainSumLaws
+pub mod UpBudget

@@ -2,4 +2,5 @@ pub mod StagedSums
 pub mod PlainSums
 pub mod MirrorOrder
 pub mod Bounds
+pub mod Budgets
 pub mod Lanes
