@@ -12,3 +12,4 @@ pub mod PairsOfEights
 pub mod Inputs
 pub mod PlainSumLaws
 pub mod UpBudget
+pub mod DownBudget

@@ -86,3 +86,32 @@ pub size-sum : (n b : ℕ) (f : ℕ → Cx) → ((m : ℕ) → IsOfSize b (f m))
 unfolding sum_below
 size-sum zero b f h = record { size = pos-le 0 (zero * b * (zero * b)) (omega arith) }
 size-sum (suc n) b f h = wider (n * b + b) (suc n * b) _ (omega arith) (size-plus (n * b) b (sum_below n f) (f n) (size-sum n b f h) (h n))
+
+pub plus_sums : (n : ℕ) (f g : ℕ → Cx) → plus (sum_below n f) (sum_below n g) ≡ sum_below n (λ m. plus (f m) (g m))
+unfolding sum_below
+plus_sums zero f g = refl
+plus_sums (suc n) f g = regrouped (sum_below n f) (f n) (sum_below n g) (g n) ∙ ap (λ s. plus s (plus (f n) (g n))) (plus_sums n f g)
+  where
+    law : (a b c d : ℤ) → (a +ℤ b) +ℤ (c +ℤ d) ≡ (a +ℤ c) +ℤ (b +ℤ d)
+    law = ring 4 (λ a b c d. (a ⊕ b) ⊕ (c ⊕ d) ≗ (a ⊕ c) ⊕ (b ⊕ d)) refl
+    regrouped : (a b c d : Cx) → plus (plus a b) (plus c d) ≡ plus (plus a c) (plus b d)
+    regrouped a b c d = pair_of _ _ (law a.re b.re c.re d.re) (law a.im b.im c.im d.im)
+
+-- a sum over the first places and those behind
+pub sum_halves : (n k : ℕ) (f : ℕ → Cx) → sum_below (n + k) f ≡ plus (sum_below n f) (sum_below k (λ m. f (m + n)))
+unfolding sum_below
+sum_halves n zero f = let e : n + 0 ≡ n = omega arith in rw e (sym (plus_zero (sum_below n f)))
+  where
+    law : (a : ℤ) → a +ℤ pos 0 ≡ a
+    law = ring 1 (λ a. a ⊕ number (pos 0) ≗ a) refl
+    plus_zero : (a : Cx) → plus a zero_pair ≡ a
+    plus_zero a = pair_of _ _ (law a.re) (law a.im)
+sum_halves n (suc k) f =
+    let e : n + suc k ≡ suc (n + k) = omega arith in
+    let last : n + k ≡ k + n = omega arith in
+    rw (e, sum_halves n k f, last) (assoc (sum_below n f) (sum_below k (λ m. f (m + n))) (f (k + n)))
+  where
+    law : (a b c : ℤ) → a +ℤ b +ℤ c ≡ a +ℤ (b +ℤ c)
+    law = ring 3 (λ a b c. a ⊕ b ⊕ c ≗ a ⊕ (b ⊕ c)) refl
+    assoc : (a b c : Cx) → plus (plus a b) c ≡ plus a (plus b c)
+    assoc a b c = pair_of _ _ (law a.re b.re c.re) (law a.im b.im c.im)

@@ -40,10 +40,10 @@ size-up_at (suc k) s x p n =
     (size-up_at k s (λ m. x (2 * m + 1)) (λ m. p (2 * m + 1))) n
 
 -- the two lists of the next level
-size-half_sums : (k s : ℕ) (x : ℕ → Cx) → All_of_size s x → All_of_size (grown s) (half_sums k x)
+pub size-half_sums : (k s : ℕ) (x : ℕ → Cx) → All_of_size s x → All_of_size (grown s) (half_sums k x)
 size-half_sums k s x p n = let narrow : s + s ≤ grown s = omega arith in wider _ _ _ narrow (size-plus s s (x n) (x (n + 2 ^ k)) (p n) (p (n + 2 ^ k)))
 
-size-turned_differences : (k s : ℕ) (x : ℕ → Cx) → All_of_size s x → All_of_size (grown s) (turned_differences k x)
+pub size-turned_differences : (k s : ℕ) (x : ℕ → Cx) → All_of_size s x → All_of_size (grown s) (turned_differences k x)
 size-turned_differences k s x p n =
     let narrow : (s + s) + (s + s) / 1048576 + 2 ≤ grown s = omega arith in
     wider _ _ _ narrow (size-scaled_product (s + s) (conjugate (stage_turn k n)) _

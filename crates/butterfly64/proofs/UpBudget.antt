@@ -59,12 +59,12 @@ difference_error c e t a s = pair_of _ _ (law c e.re t.re a.re s.re) (law c e.im
 
 -- ---- sizes of errors
 -- what rounding adds
-rounding_size : (w z : Cx) → IsOfSize 741456 (minus (multiple (pos 1048576) (scaled_product w z)) (times w z))
+pub rounding_size : (w z : Cx) → IsOfSize 741456 (minus (multiple (pos 1048576) (scaled_product w z)) (times w z))
 unfolding scaled_product
 rounding_size w z = record { size = size_of_rounding (times w z).re (times w z).im 524288 741456 (omega arith) (omega arith) }
 
 -- the size of a multiple
-size-multiple : (n a : ℕ) (x : Cx) → IsOfSize a x → IsOfSize (n * a) (multiple (pos n) x)
+pub size-multiple : (n a : ℕ) (x : Cx) → IsOfSize a x → IsOfSize (n * a) (multiple (pos n) x)
 size-multiple n a x h = record { size = size_of_scaled (pos n) x.re x.im n a (omega arith) h.size }
 
 -- a turned sum, where what it is turned from and the table have these errors
@@ -98,13 +98,13 @@ odd_place_on : (h q m p j : ℕ) → q ≡ 2 * h → h * p ≡ 32 → h * ((2 * 
 odd_place_on h q m p j e f = rw e (omega (arith, f, ap (λ z. z * m) f))
 
 -- the steps of a level
-step_is : (k : ℕ) → k < 6 → 2 ^ (6 - suc k) ≡ 2 ^ (5 - k)
+pub step_is : (k : ℕ) → k < 6 → 2 ^ (6 - suc k) ≡ 2 ^ (5 - k)
 step_is k h = let e : 6 - suc k ≡ 5 - k = omega arith in ap (λ i. 2 ^ i) e
 
-double_step : (k : ℕ) → k < 6 → 2 ^ (6 - k) ≡ 2 * 2 ^ (5 - k)
+pub double_step : (k : ℕ) → k < 6 → 2 ^ (6 - k) ≡ 2 * 2 ^ (5 - k)
 double_step k h = let e : 6 - k ≡ suc (5 - k) = omega arith in rw (e, pow-suc 2 (5 - k)) (omega arith)
 
-half_turn : (k : ℕ) → k < 6 → 2 ^ (5 - k) * 2 ^ k ≡ 32
+pub half_turn : (k : ℕ) → k < 6 → 2 ^ (5 - k) * 2 ^ k ≡ 32
 half_turn k h = eqb-true _ _ (passes_at (λ i. eqb (2 ^ (5 - i) * 2 ^ i) 32) 6 refl k h)
 
 halves : (k : ℕ) (x : ℕ → Cx) (n : ℕ) → k < 6 → plain_at (suc k) x n ≡ plus (sum_below (2 ^ k) (λ m. times (x (2 * m)) (turn_at (2 ^ (5 - k) * (2 * m * n))))) (sum_below (2 ^ k) (λ m. times (x (2 * m + 1)) (turn_at (2 ^ (5 - k) * ((2 * m + 1) * n)))))
@@ -137,7 +137,7 @@ plus_opposite a s = pair_of _ _ (law a.re s.re) (law a.im s.im)
     law = ring 2 (λ a s. a ⊕ number (negsuc 0) ⊗ s ≗ a ⊖ s) refl
 
 -- one pair is its own sum
-one_pair : (x : Cx) → minus (multiple (pos 1048576) x) (plus zero_pair (times x (record { re = pos 1048576; im = pos 0 }))) ≡ zero_pair
+pub one_pair : (x : Cx) → minus (multiple (pos 1048576) x) (plus zero_pair (times x (record { re = pos 1048576; im = pos 0 }))) ≡ zero_pair
 unfolding times
 one_pair x = pair_of _ _ (re x.re x.im) (im x.re x.im)
   where
@@ -156,7 +156,7 @@ near_one x n =
 module _ (whole : (m : ℕ) → turn_at (m + 64) ≡ turn_at m) (half : (m : ℕ) → turn_at (m + 32) ≡ minus zero_pair (turn_at m))
     (products : (a b : ℕ) → IsOfSize 1387885 (minus (times (turn_at a) (turn_at b)) (multiple (pos 1048576) (turn_at (a + b))))) where
 
-  whole_turns : (a p : ℕ) → turn_at (a + 64 * p) ≡ turn_at a
+  pub whole_turns : (a p : ℕ) → turn_at (a + 64 * p) ≡ turn_at a
   whole_turns a zero = let e : a + 64 * 0 ≡ a = omega arith in ap turn_at e
   whole_turns a (suc p) = let e : a + 64 * suc p ≡ (a + 64 * p) + 64 = omega arith in ap turn_at e ∙ whole (a + 64 * p) ∙ whole_turns a p
 

@@ -10,3 +10,13 @@ joined_budget k size budget =
 abbrev pub budget_of : ℕ → ℕ → ℕ
 budget_of zero size = 0
 budget_of (suc k) size = joined_budget k size (budget_of k size)
+
+-- what a stage takes a size to
+abbrev pub grown_size : ℕ → ℕ
+grown_size size = 2 * size + 2 * size / 1048576 + 2
+
+-- the budget of staged sums `down` of 2^k pairs of at most a size: that of the next level, and the errors of rounding and of the table in a stage's differences
+abbrev pub down_budget_of : ℕ → ℕ → ℕ
+down_budget_of zero size = 0
+down_budget_of (suc k) size =
+    down_budget_of k (grown_size size) + (2 ^ k * (741456 * 1048577 + 2 * size * 1387885) / 1048576 + 1)
