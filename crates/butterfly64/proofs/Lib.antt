@@ -13,3 +13,4 @@ pub mod Inputs
 pub mod PlainSumLaws
 pub mod UpBudget
 pub mod DownBudget
+pub mod SampleBudgets

@@ -1,3 +1,4 @@
+pub mod Samples
 pub mod StagedSums
 pub mod PlainSums
 pub mod MirrorOrder

@@ -1,10 +1,11 @@
 //! How near staged sums are to plain ones. The functions do nothing: what each ensures is the law.
 
-ghost use Rattle.std.specs.Prelude.{ℕ, ◌^◌, ◌<◌, pos};
-ghost use Rattle.fixed_complex.specs.Pairs.{IsOfSize, minus, multiple};
+ghost use Rattle.std.specs.Prelude.{ℕ, ◌*◌, ◌^◌, ◌<◌, pos};
+ghost use Rattle.fixed_complex.specs.Pairs.{IsOfSize, IsWithin, minus, multiple};
 ghost use Rattle.fixed_complex.specs.declared.Cx.{Cx};
 ghost use Rattle.butterfly64.specs.Budgets.{budget_of, down_budget_of};
 ghost use Rattle.butterfly64.specs.PlainSums.{plain_down, plain_up};
+ghost use Rattle.butterfly64.specs.Samples.{by_256, received_pair, sent_pair};
 ghost use Rattle.butterfly64.specs.StagedSums.{down_at, up_at};
 
 use fixed_complex::laws::{product_of_turns, whole_half_and_quarter_turns};
@@ -24,6 +25,26 @@ pub fn rounding_of_up()
 pub fn rounding_of_down()
     ensures { (size : ℕ) (x : ℕ → Cx) → ((n : ℕ) → IsOfSize size (x n)) → (c : ℕ) → c < 64
         → IsOfSize (down_budget_of 6 size) (minus (multiple (pos (2 ^ 20)) (down_at 6 x c)) (plain_down x c)) }
+{
+    whole_half_and_quarter_turns();
+    product_of_turns();
+}
+
+/// A sent sample, the staged sum `up` of carriers times 256, over 512 and rounded half up, is within 1 of half the sum
+/// of the carriers, in each component, where no component of a carrier is larger than 954 (own).
+pub fn sent_samples()
+    ensures { (x : ℕ → Cx) → ((c : ℕ) → IsWithin 954 (x c)) → (n : ℕ) → n < 64 → IsWithin (2 ^ 21)
+        (minus (multiple (pos (2 ^ 21)) (sent_pair (up_at 6 (by_256 x) n))) (plain_up x n)) }
+{
+    whole_half_and_quarter_turns();
+    product_of_turns();
+}
+
+/// A received carrier, the staged sum `down` of samples times 256, over 256 and rounded half up, is within 40 of the
+/// plain sum of the samples over 2^20, in each component, for all samples of 16 bits (own).
+pub fn received_carriers()
+    ensures { (r : ℕ → Cx) → ((n : ℕ) → IsWithin (2 ^ 15) (r n)) → (c : ℕ) → c < 64 → IsWithin (40 * 2 ^ 20)
+        (minus (multiple (pos (2 ^ 20)) (received_pair (down_at 6 (by_256 r) c))) (plain_down r c)) }
 {
     whole_half_and_quarter_turns();
     product_of_turns();
