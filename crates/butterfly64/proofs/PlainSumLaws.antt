@@ -1,10 +1,10 @@
 -- Sums of pairs.
-use Rattle.std.proofs.Common.{◌≡◌, ℕ, zero, suc, ◌+◌, ◌*◌, ◌<◌, ◌≤◌, refl, ap, sym, ◌∙◌, arith}
+use Rattle.std.proofs.Common.{◌≡◌, ℕ, zero, suc, ◌+◌, ◌*◌, refl, ap, sym, ◌∙◌, arith}
 use Rattle.std.specs.Prelude.{ℤ, pos, ◌+ℤ◌, ◌-ℤ◌, ◌*ℤ◌}
 use Rattle.fixed_complex.specs.declared.Cx.{Cx}
 use Rattle.fixed_complex.specs.Laws.{sum_below}
 use Rattle.fixed_complex.specs.Pairs.{IsOfSize, zero_pair, plus, minus, multiple, times}
-use Rattle.integer_laws.proofs.Ring.{ring, number, negated, ◌⊕◌, ◌⊖◌, ◌⊗◌, ◌≗◌}
+use Rattle.integer_laws.proofs.Ring.{ring, number, ◌⊕◌, ◌⊖◌, ◌⊗◌, ◌≗◌}
 use Rattle.integer_laws.proofs.Order.{pos-le}
 use Rattle.butterfly64.proofs.Sizes.{wider, size-plus}
 
@@ -31,6 +31,7 @@ times_plus w a b = pair_of _ _ (re w.re w.im a.re a.im b.re b.im) (im w.re w.im 
   where
     re : (p q a b c d : ℤ) → p *ℤ (a +ℤ c) -ℤ q *ℤ (b +ℤ d) ≡ (p *ℤ a -ℤ q *ℤ b) +ℤ (p *ℤ c -ℤ q *ℤ d)
     re = ring 6 (λ p q a b c d. p ⊗ (a ⊕ c) ⊖ q ⊗ (b ⊕ d) ≗ (p ⊗ a ⊖ q ⊗ b) ⊕ (p ⊗ c ⊖ q ⊗ d)) refl
+
     im : (p q a b c d : ℤ) → p *ℤ (b +ℤ d) +ℤ q *ℤ (a +ℤ c) ≡ (p *ℤ b +ℤ q *ℤ a) +ℤ (p *ℤ d +ℤ q *ℤ c)
     im = ring 6 (λ p q a b c d. p ⊗ (b ⊕ d) ⊕ q ⊗ (a ⊕ c) ≗ (p ⊗ b ⊕ q ⊗ a) ⊕ (p ⊗ d ⊕ q ⊗ c)) refl
 
@@ -40,6 +41,7 @@ times_zero w = pair_of _ _ (re w.re w.im) (im w.re w.im)
   where
     re : (p q : ℤ) → p *ℤ pos 0 -ℤ q *ℤ pos 0 ≡ pos 0
     re = ring 2 (λ p q. p ⊗ number (pos 0) ⊖ q ⊗ number (pos 0) ≗ number (pos 0)) refl
+
     im : (p q : ℤ) → p *ℤ pos 0 +ℤ q *ℤ pos 0 ≡ pos 0
     im = ring 2 (λ p q. p ⊗ number (pos 0) ⊕ q ⊗ number (pos 0) ≗ number (pos 0)) refl
 
@@ -94,6 +96,7 @@ plus_sums (suc n) f g = regrouped (sum_below n f) (f n) (sum_below n g) (g n) �
   where
     law : (a b c d : ℤ) → (a +ℤ b) +ℤ (c +ℤ d) ≡ (a +ℤ c) +ℤ (b +ℤ d)
     law = ring 4 (λ a b c d. (a ⊕ b) ⊕ (c ⊕ d) ≗ (a ⊕ c) ⊕ (b ⊕ d)) refl
+
     regrouped : (a b c d : Cx) → plus (plus a b) (plus c d) ≡ plus (plus a c) (plus b d)
     regrouped a b c d = pair_of _ _ (law a.re b.re c.re d.re) (law a.im b.im c.im d.im)
 
@@ -104,6 +107,7 @@ sum_halves n zero f = let e : n + 0 ≡ n = omega arith in rw e (sym (plus_zero 
   where
     law : (a : ℤ) → a +ℤ pos 0 ≡ a
     law = ring 1 (λ a. a ⊕ number (pos 0) ≗ a) refl
+
     plus_zero : (a : Cx) → plus a zero_pair ≡ a
     plus_zero a = pair_of _ _ (law a.re) (law a.im)
 sum_halves n (suc k) f =
@@ -113,5 +117,6 @@ sum_halves n (suc k) f =
   where
     law : (a b c : ℤ) → a +ℤ b +ℤ c ≡ a +ℤ (b +ℤ c)
     law = ring 3 (λ a b c. a ⊕ b ⊕ c ≗ a ⊕ (b ⊕ c)) refl
+
     assoc : (a b c : Cx) → plus (plus a b) c ≡ plus a (plus b c)
     assoc a b c = pair_of _ _ (law a.re b.re c.re) (law a.im b.im c.im)

@@ -1,15 +1,14 @@
 -- How near sent samples and received carriers are to the plain sums.
-use Rattle.std.proofs.Common.{◌≡◌, ℕ, ◌+◌, ◌*◌, ◌^◌, ◌<◌, ◌≤◌, refl, ap, sym, ◌∙◌, arith, leb}
-use Rattle.std.specs.Prelude.{ℤ, pos, ◌+ℤ◌, ◌-ℤ◌, ◌*ℤ◌, neg_ℤ, unsigned_abs}
+use Rattle.std.proofs.Common.{◌≡◌, ℕ, ◌+◌, ◌*◌, ◌^◌, ◌<◌, ◌≤◌, refl, sym, ◌∙◌, arith}
+use Rattle.std.specs.Prelude.{ℤ, pos, ◌+ℤ◌, ◌-ℤ◌, ◌*ℤ◌, unsigned_abs}
 use Rattle.std.proofs.lemmas.Int.{ints}
 use Rattle.std.proofs.lemmas.Bool.{leb-true}
 use Rattle.fixed_complex.specs.declared.Cx.{Cx}
-use Rattle.fixed_complex.specs.Laws.{sum_below}
 use Rattle.fixed_complex.specs.Pairs.{IsWithin, IsOfSize, minus, multiple, conjugate, times}
 use Rattle.fixed_complex.specs.Rounding.{half_up}
 use Rattle.fixed_complex.specs.Turns.{turn_at}
 use Rattle.integer_laws.proofs.FloorDivision.{rounding_within}
-use Rattle.integer_laws.proofs.Ring.{ring, negated, ◌⊕◌, ◌⊖◌, ◌⊗◌, ◌≗◌}
+use Rattle.integer_laws.proofs.Ring.{ring, ◌⊕◌, ◌⊖◌, ◌⊗◌, ◌≗◌}
 use Rattle.integer_laws.proofs.Sizes.{size_of_parts}
 use Rattle.butterfly64.specs.Budgets.{budget_of, down_budget_of}
 use Rattle.butterfly64.specs.PlainSums.{plain_up, plain_down}
@@ -27,6 +26,7 @@ multiple_times c x t = pair_of _ _ (re c x.re x.im t.re t.im) (im c x.re x.im t.
   where
     re : (c x y t u : ℤ) → (c *ℤ x) *ℤ t -ℤ (c *ℤ y) *ℤ u ≡ c *ℤ (x *ℤ t -ℤ y *ℤ u)
     re = ring 5 (λ c x y t u. (c ⊗ x) ⊗ t ⊖ (c ⊗ y) ⊗ u ≗ c ⊗ (x ⊗ t ⊖ y ⊗ u)) refl
+
     im : (c x y t u : ℤ) → (c *ℤ x) *ℤ u +ℤ (c *ℤ y) *ℤ t ≡ c *ℤ (x *ℤ u +ℤ y *ℤ t)
     im = ring 5 (λ c x y t u. (c ⊗ x) ⊗ u ⊕ (c ⊗ y) ⊗ t ≗ c ⊗ (x ⊗ u ⊕ y ⊗ t)) refl
 
@@ -52,7 +52,6 @@ received_part q v f rounded near = omega (arith, ints, rounded, near)
 
 module _ (whole : (m : ℕ) → turn_at (m + 64) ≡ turn_at m) (half : (m : ℕ) → turn_at (m + 32) ≡ minus (record { re = pos 0; im = pos 0 }) (turn_at m))
     (products : (a b : ℕ) → IsOfSize 1387885 (minus (times (turn_at a) (turn_at b)) (multiple (pos 1048576) (turn_at (a + b))))) where
-
   -- a sent sample is within 1 of half the sum of carriers
   pub near_sent : (x : ℕ → Cx) → ((c : ℕ) → IsWithin 954 (x c)) → (n : ℕ) → n < 64 → IsWithin (2 ^ 21) (minus (multiple (pos 2097152) (sent_pair (up_at 6 (by_256 x) n))) (plain_up x n))
   near_sent x within n lt =
@@ -63,7 +62,7 @@ module _ (whole : (m : ℕ) → turn_at (m + 64) ≡ turn_at m) (half : (m : ℕ
       let enough : budget_of 6 345600 ≤ 2 ^ 28 = leb-true (budget_of 6 345600) (2 ^ 28) refl in
       record {
         re = sent_part (half_up 9 sum.re) sum.re (plain_up x n).re (rounding_within sum.re 256 (omega arith)) (omega (arith, parts.re, enough));
-        im = sent_part (half_up 9 sum.im) sum.im (plain_up x n).im (rounding_within sum.im 256 (omega arith)) (omega (arith, parts.im, enough))
+        im = sent_part (half_up 9 sum.im) sum.im (plain_up x n).im (rounding_within sum.im 256 (omega arith)) (omega (arith, parts.im, enough));
       }
 
   -- a received carrier is within 40 of the plain sum over 2^20
@@ -76,5 +75,5 @@ module _ (whole : (m : ℕ) → turn_at (m + 64) ≡ turn_at m) (half : (m : ℕ
       let enough : down_budget_of 6 11863296 ≤ 39 * 2 ^ 28 = leb-true (down_budget_of 6 11863296) (39 * 2 ^ 28) refl in
       record {
         re = received_part (half_up 8 sum.re) sum.re (plain_down r c).re (rounding_within sum.re 128 (omega arith)) (omega (arith, parts.re, enough));
-        im = received_part (half_up 8 sum.im) sum.im (plain_down r c).im (rounding_within sum.im 128 (omega arith)) (omega (arith, parts.im, enough))
+        im = received_part (half_up 8 sum.im) sum.im (plain_down r c).im (rounding_within sum.im 128 (omega arith)) (omega (arith, parts.im, enough));
       }

@@ -1,6 +1,6 @@
 -- How near the staged sums `up` are to the plain ones, join by join.
-use Rattle.std.proofs.Common.{◌≡◌, ℕ, zero, suc, ◌+◌, ◌-◌, ◌*◌, ◌/◌, ◌%◌, ◌^◌, ◌<◌, ◌≤◌, refl, ap, sym, ◌∙◌, arith, eqb, inl, inr}
-use Rattle.std.specs.Prelude.{ℤ, pos, negsuc, ◌+ℤ◌, ◌-ℤ◌, ◌*ℤ◌, neg_ℤ}
+use Rattle.std.proofs.Common.{◌≡◌, ℕ, zero, suc, ◌+◌, ◌-◌, ◌*◌, ◌/◌, ◌^◌, ◌<◌, ◌≤◌, refl, ap, sym, ◌∙◌, arith, eqb, inl, inr}
+use Rattle.std.specs.Prelude.{ℤ, pos, negsuc, ◌+ℤ◌, ◌-ℤ◌, ◌*ℤ◌}
 use Rattle.std.proofs.lemmas.Bool.{cases_lt, eqb-true}
 use Rattle.std.proofs.Math.Nat.{pow-suc}
 use Rattle.fixed_complex.specs.declared.Cx.{Cx}
@@ -8,11 +8,11 @@ use Rattle.fixed_complex.specs.Laws.{sum_below}
 use Rattle.fixed_complex.specs.Pairs.{IsOfSize, zero_pair, plus, minus, multiple, times, scaled_product}
 use Rattle.fixed_complex.specs.Turns.{turn_at}
 use Rattle.integer_laws.proofs.Ring.{ring, number, ◌⊕◌, ◌⊖◌, ◌⊗◌, ◌≗◌}
-use Rattle.integer_laws.proofs.Sizes.{size_of_rounding, size_of_scaled, size_of_unscaled, size_monotone}
+use Rattle.integer_laws.proofs.Sizes.{size_of_rounding, size_of_scaled, size_of_unscaled}
 use Rattle.integer_laws.proofs.Order.{pos-le}
-use Rattle.butterfly64.specs.Budgets.{joined_budget, budget_of}
+use Rattle.butterfly64.specs.Budgets.{budget_of}
 use Rattle.butterfly64.specs.PlainSums.{plain_up}
-use Rattle.butterfly64.specs.StagedSums.{stage_turn, joined, up_at}
+use Rattle.butterfly64.specs.StagedSums.{stage_turn, up_at}
 use Rattle.butterfly64.proofs.ByPlace.{passes_at}
 use Rattle.butterfly64.proofs.Sizes.{wider, size-plus, size-minus, size-times}
 use Rattle.butterfly64.proofs.TurnSizes.{turn-size}
@@ -31,6 +31,7 @@ product_error w x a t c = pair_of _ _ (re w.re w.im x.re x.im a.re a.im t.re t.i
   where
     re : (p q x y a b t u c : ℤ) → (p *ℤ (x *ℤ a -ℤ y *ℤ b) -ℤ q *ℤ (x *ℤ b +ℤ y *ℤ a)) -ℤ c *ℤ (x *ℤ t -ℤ y *ℤ u) ≡ x *ℤ ((a *ℤ p -ℤ b *ℤ q) -ℤ c *ℤ t) -ℤ y *ℤ ((a *ℤ q +ℤ b *ℤ p) -ℤ c *ℤ u)
     re = ring 9 (λ p q x y a b t u c. (p ⊗ (x ⊗ a ⊖ y ⊗ b) ⊖ q ⊗ (x ⊗ b ⊕ y ⊗ a)) ⊖ c ⊗ (x ⊗ t ⊖ y ⊗ u) ≗ x ⊗ ((a ⊗ p ⊖ b ⊗ q) ⊖ c ⊗ t) ⊖ y ⊗ ((a ⊗ q ⊕ b ⊗ p) ⊖ c ⊗ u)) refl
+
     im : (p q x y a b t u c : ℤ) → (p *ℤ (x *ℤ b +ℤ y *ℤ a) +ℤ q *ℤ (x *ℤ a -ℤ y *ℤ b)) -ℤ c *ℤ (x *ℤ u +ℤ y *ℤ t) ≡ x *ℤ ((a *ℤ q +ℤ b *ℤ p) -ℤ c *ℤ u) +ℤ y *ℤ ((a *ℤ p -ℤ b *ℤ q) -ℤ c *ℤ t)
     im = ring 9 (λ p q x y a b t u c. (p ⊗ (x ⊗ b ⊕ y ⊗ a) ⊕ q ⊗ (x ⊗ a ⊖ y ⊗ b)) ⊖ c ⊗ (x ⊗ u ⊕ y ⊗ t) ≗ x ⊗ ((a ⊗ q ⊕ b ⊗ p) ⊖ c ⊗ u) ⊕ y ⊗ ((a ⊗ p ⊖ b ⊗ q) ⊖ c ⊗ t)) refl
 
@@ -41,6 +42,7 @@ turned_error c w o b t s = pair_of _ _ (re c w.re w.im o.re o.im b.re b.im t.re 
   where
     re : (c p q o v b d t s : ℤ) → c *ℤ (c *ℤ t -ℤ s) ≡ (c *ℤ (c *ℤ t -ℤ (p *ℤ o -ℤ q *ℤ v)) +ℤ (p *ℤ (c *ℤ o -ℤ b) -ℤ q *ℤ (c *ℤ v -ℤ d))) +ℤ ((p *ℤ b -ℤ q *ℤ d) -ℤ c *ℤ s)
     re = ring 9 (λ c p q o v b d t s. c ⊗ (c ⊗ t ⊖ s) ≗ (c ⊗ (c ⊗ t ⊖ (p ⊗ o ⊖ q ⊗ v)) ⊕ (p ⊗ (c ⊗ o ⊖ b) ⊖ q ⊗ (c ⊗ v ⊖ d))) ⊕ ((p ⊗ b ⊖ q ⊗ d) ⊖ c ⊗ s)) refl
+
     im : (c p q o v b d t s : ℤ) → c *ℤ (c *ℤ t -ℤ s) ≡ (c *ℤ (c *ℤ t -ℤ (p *ℤ v +ℤ q *ℤ o)) +ℤ (p *ℤ (c *ℤ v -ℤ d) +ℤ q *ℤ (c *ℤ o -ℤ b))) +ℤ ((p *ℤ d +ℤ q *ℤ b) -ℤ c *ℤ s)
     im = ring 9 (λ c p q o v b d t s. c ⊗ (c ⊗ t ⊖ s) ≗ (c ⊗ (c ⊗ t ⊖ (p ⊗ v ⊕ q ⊗ o)) ⊕ (p ⊗ (c ⊗ v ⊖ d) ⊕ q ⊗ (c ⊗ o ⊖ b))) ⊕ ((p ⊗ d ⊕ q ⊗ b) ⊖ c ⊗ s)) refl
 
@@ -74,9 +76,9 @@ turned_size b v w o p t s w_size rounded odd table =
     let whole = minus (multiple (pos 1048576) t) s in
     let bound = b + b / 1048576 + v / 1048576 + 741458 in
     let parts : IsOfSize (1048576 * 741456 + 1048577 * b + v) (multiple (pos 1048576) whole) = rw (turned_error (pos 1048576) w o p t s)
-      (size-plus (1048576 * 741456 + 1048577 * b) v _ _
-        (size-plus (1048576 * 741456) (1048577 * b) _ _ (size-multiple 1048576 741456 (minus (multiple (pos 1048576) t) (times w o)) rounded) (size-times 1048577 b w (minus (multiple (pos 1048576) o) p) w_size odd))
-        table) in
+    (size-plus (1048576 * 741456 + 1048577 * b) v _ _
+    (size-plus (1048576 * 741456) (1048577 * b) _ _ (size-multiple 1048576 741456 (minus (multiple (pos 1048576) t) (times w o)) rounded) (size-times 1048577 b w (minus (multiple (pos 1048576) o) p) w_size odd))
+    table) in
     record { size = size_of_unscaled 1048576 whole.re whole.im bound (omega arith) (wider (1048576 * 741456 + 1048577 * b + v) (1048576 * bound) (multiple (pos 1048576) whole) (omega arith) parts).size }
 
 -- ---- a plain sum by even and odd places
@@ -116,9 +118,9 @@ plain_first : (k : ℕ) (x : ℕ → Cx) (j : ℕ) → k < 6 → plain_at (suc k
 plain_first k x j h =
     halves k x j h
     ∙ ap (λ s. plus s (sum_below (2 ^ k) (λ m. times (x (2 * m + 1)) (turn_at (2 ^ (5 - k) * ((2 * m + 1) * j))))))
-      (same_sums _ _ (λ m. ap (λ p. times (x (2 * m)) (turn_at p)) (even_place (2 ^ (5 - k)) (2 ^ (6 - k)) m j (double_step k h))) (2 ^ k))
+    (same_sums _ _ (λ m. ap (λ p. times (x (2 * m)) (turn_at p)) (even_place (2 ^ (5 - k)) (2 ^ (6 - k)) m j (double_step k h))) (2 ^ k))
     ∙ ap (plus (plain_at k (λ m. x (2 * m)) j))
-      (same_sums _ _ (λ m. ap (λ p. times (x (2 * m + 1)) (turn_at p)) (odd_place (2 ^ (5 - k)) (2 ^ (6 - k)) m j (double_step k h))) (2 ^ k))
+    (same_sums _ _ (λ m. ap (λ p. times (x (2 * m + 1)) (turn_at p)) (odd_place (2 ^ (5 - k)) (2 ^ (6 - k)) m j (double_step k h))) (2 ^ k))
 
 -- a product with a turn that is half a turn further, and a sum with what is negated
 times_opposite : (x t : Cx) → times x (minus zero_pair t) ≡ multiple (negsuc 0) (times x t)
@@ -127,6 +129,7 @@ times_opposite x t = pair_of _ _ (re x.re x.im t.re t.im) (im x.re x.im t.re t.i
   where
     re : (x y t u : ℤ) → x *ℤ (pos 0 -ℤ t) -ℤ y *ℤ (pos 0 -ℤ u) ≡ negsuc 0 *ℤ (x *ℤ t -ℤ y *ℤ u)
     re = ring 4 (λ x y t u. x ⊗ (number (pos 0) ⊖ t) ⊖ y ⊗ (number (pos 0) ⊖ u) ≗ number (negsuc 0) ⊗ (x ⊗ t ⊖ y ⊗ u)) refl
+
     im : (x y t u : ℤ) → x *ℤ (pos 0 -ℤ u) +ℤ y *ℤ (pos 0 -ℤ t) ≡ negsuc 0 *ℤ (x *ℤ u +ℤ y *ℤ t)
     im = ring 4 (λ x y t u. x ⊗ (number (pos 0) ⊖ u) ⊕ y ⊗ (number (pos 0) ⊖ t) ≗ number (negsuc 0) ⊗ (x ⊗ u ⊕ y ⊗ t)) refl
 
@@ -143,6 +146,7 @@ one_pair x = pair_of _ _ (re x.re x.im) (im x.re x.im)
   where
     re : (x y : ℤ) → pos 1048576 *ℤ x -ℤ (pos 0 +ℤ (x *ℤ pos 1048576 -ℤ y *ℤ pos 0)) ≡ pos 0
     re = ring 2 (λ x y. number (pos 1048576) ⊗ x ⊖ (number (pos 0) ⊕ (x ⊗ number (pos 1048576) ⊖ y ⊗ number (pos 0))) ≗ number (pos 0)) refl
+
     im : (x y : ℤ) → pos 1048576 *ℤ y -ℤ (pos 0 +ℤ (x *ℤ pos 0 +ℤ y *ℤ pos 1048576)) ≡ pos 0
     im = ring 2 (λ x y. number (pos 1048576) ⊗ y ⊖ (number (pos 0) ⊕ (x ⊗ number (pos 0) ⊕ y ⊗ number (pos 1048576))) ≗ number (pos 0)) refl
 
@@ -155,7 +159,6 @@ near_one x n =
 -- ---- from the laws of turns
 module _ (whole : (m : ℕ) → turn_at (m + 64) ≡ turn_at m) (half : (m : ℕ) → turn_at (m + 32) ≡ minus zero_pair (turn_at m))
     (products : (a b : ℕ) → IsOfSize 1387885 (minus (times (turn_at a) (turn_at b)) (multiple (pos 1048576) (turn_at (a + b))))) where
-
   pub whole_turns : (a p : ℕ) → turn_at (a + 64 * p) ≡ turn_at a
   whole_turns a zero = let e : a + 64 * 0 ≡ a = omega arith in ap turn_at e
   whole_turns a (suc p) = let e : a + 64 * suc p ≡ (a + 64 * p) + 64 = omega arith in ap turn_at e ∙ whole (a + 64 * p) ∙ whole_turns a p
@@ -166,12 +169,12 @@ module _ (whole : (m : ℕ) → turn_at (m + 64) ≡ turn_at m) (half : (m : ℕ
       let s = 2 ^ (5 - k) in
       halves k x (2 ^ k + j) h
       ∙ ap (λ t. plus t (sum_below (2 ^ k) (λ m. times (x (2 * m + 1)) (turn_at (s * ((2 * m + 1) * (2 ^ k + j)))))))
-        (same_sums _ _ (λ m. ap (times (x (2 * m))) (ap turn_at (even_place_on s q m (2 ^ k) j (double_step k h) (half_turn k h)) ∙ whole_turns (q * (m * j)) m)) (2 ^ k))
+      (same_sums _ _ (λ m. ap (times (x (2 * m))) (ap turn_at (even_place_on s q m (2 ^ k) j (double_step k h) (half_turn k h)) ∙ whole_turns (q * (m * j)) m)) (2 ^ k))
       ∙ ap (plus (plain_at k (λ m. x (2 * m)) j))
-        (same_sums _ (λ m. multiple (negsuc 0) (times (x (2 * m + 1)) (turn_at (q * (m * j) + s * j)))) (λ m.
-            ap (times (x (2 * m + 1))) (ap turn_at (odd_place_on s q m (2 ^ k) j (double_step k h) (half_turn k h)) ∙ half (q * (m * j) + s * j + 64 * m) ∙ ap (minus zero_pair) (whole_turns (q * (m * j) + s * j) m))
-            ∙ times_opposite (x (2 * m + 1)) (turn_at (q * (m * j) + s * j))) (2 ^ k)
-          ∙ sym (multiple_sum (negsuc 0) (2 ^ k) (λ m. times (x (2 * m + 1)) (turn_at (q * (m * j) + s * j)))))
+      (same_sums _ (λ m. multiple (negsuc 0) (times (x (2 * m + 1)) (turn_at (q * (m * j) + s * j)))) (λ m.
+      ap (times (x (2 * m + 1))) (ap turn_at (odd_place_on s q m (2 ^ k) j (double_step k h) (half_turn k h)) ∙ half (q * (m * j) + s * j + 64 * m) ∙ ap (minus zero_pair) (whole_turns (q * (m * j) + s * j) m))
+      ∙ times_opposite (x (2 * m + 1)) (turn_at (q * (m * j) + s * j))) (2 ^ k)
+      ∙ sym (multiple_sum (negsuc 0) (2 ^ k) (λ m. times (x (2 * m + 1)) (turn_at (q * (m * j) + s * j)))))
       ∙ plus_opposite (plain_at k (λ m. x (2 * m)) j) (turned_plain k (λ m. x (2 * m + 1)) j)
 
   -- the errors of the table in a turned plain sum
@@ -180,10 +183,10 @@ module _ (whole : (m : ℕ) → turn_at (m + 64) ≡ turn_at m) (half : (m : ℕ
       let w = stage_turn k j in
       let place = λ (m : ℕ). 2 ^ (6 - k) * (m * j) in
       let same : minus (times w (plain_at k y j)) (multiple (pos 1048576) (turned_plain k y j)) ≡ sum_below (2 ^ k) (λ m. times (y m) (minus (times (turn_at (place m)) w) (multiple (pos 1048576) (turn_at (place m + 2 ^ (5 - k) * j))))) =
-        ap (λ a. minus a (multiple (pos 1048576) (turned_plain k y j))) (times_sum w (2 ^ k) (λ m. times (y m) (turn_at (place m))))
-        ∙ ap (minus (sum_below (2 ^ k) (λ m. times w (times (y m) (turn_at (place m)))))) (multiple_sum (pos 1048576) (2 ^ k) (λ m. times (y m) (turn_at (place m + 2 ^ (5 - k) * j))))
-        ∙ minus_sums (2 ^ k) (λ m. times w (times (y m) (turn_at (place m)))) (λ m. multiple (pos 1048576) (times (y m) (turn_at (place m + 2 ^ (5 - k) * j))))
-        ∙ same_sums _ _ (λ m. product_error w (y m) (turn_at (place m)) (turn_at (place m + 2 ^ (5 - k) * j)) (pos 1048576)) (2 ^ k) in
+      ap (λ a. minus a (multiple (pos 1048576) (turned_plain k y j))) (times_sum w (2 ^ k) (λ m. times (y m) (turn_at (place m))))
+      ∙ ap (minus (sum_below (2 ^ k) (λ m. times w (times (y m) (turn_at (place m)))))) (multiple_sum (pos 1048576) (2 ^ k) (λ m. times (y m) (turn_at (place m + 2 ^ (5 - k) * j))))
+      ∙ minus_sums (2 ^ k) (λ m. times w (times (y m) (turn_at (place m)))) (λ m. multiple (pos 1048576) (times (y m) (turn_at (place m + 2 ^ (5 - k) * j))))
+      ∙ same_sums _ _ (λ m. product_error w (y m) (turn_at (place m)) (turn_at (place m + 2 ^ (5 - k) * j)) (pos 1048576)) (2 ^ k) in
       rw same (size-sum (2 ^ k) (size * 1387885) _ (λ m. size-times size 1387885 (y m) _ (h m) (products (place m) (2 ^ (5 - k) * j))))
 
   -- join by join
@@ -195,18 +198,19 @@ module _ (whole : (m : ℕ) → turn_at (m + 64) ≡ turn_at m) (half : (m : ℕ
       let odd = λ (m : ℕ). x (2 * m + 1) in
       let b = budget_of k size in
       let turned = λ (j : ℕ) (j_lt : j < 2 ^ k). turned_size b (2 ^ k * (size * 1387885)) (stage_turn k j) (up_at k odd j) (plain_at k odd j) (scaled_product (stage_turn k j) (up_at k odd j)) (turned_plain k odd j)
-        (turn-size (2 ^ (5 - k) * j)) (rounding_size (stage_turn k j) (up_at k odd j)) (near_up k size odd (omega arith) (λ m. h (2 * m + 1)) j j_lt) (table_size k size odd j (λ m. h (2 * m + 1))) in
+      (turn-size (2 ^ (5 - k) * j)) (rounding_size (stage_turn k j) (up_at k odd j)) (near_up k size odd (omega arith) (λ m. h (2 * m + 1)) j j_lt) (table_size k size odd j (λ m. h (2 * m + 1))) in
       let below : k < 6 = omega arith in
       elim (cases_lt n (2 ^ k)) [
-        inl here ↦
-          rw (joined-first k (up_at k even) (up_at k odd) n here, plain_first k x n below, sum_error (pos 1048576) (up_at k even n) (scaled_product (stage_turn k n) (up_at k odd n)) (plain_at k even n) (turned_plain k odd n))
+        | inl here ↦
+            rw (joined-first k (up_at k even) (up_at k odd) n here, plain_first k x n below, sum_error (pos 1048576) (up_at k even n) (scaled_product (stage_turn k n) (up_at k odd n)) (plain_at k even n) (turned_plain k odd n))
             (size-plus b (b + b / 1048576 + 2 ^ k * (size * 1387885) / 1048576 + 741458) _ _ (near_up k size even (omega arith) (λ m. h (2 * m)) n here) (turned n here))
         | inr there ↦
-          let j = n - 2 ^ k in
-          let j_lt : j < 2 ^ k = omega (arith, pow-suc 2 k) in
-          let place : n ≡ 2 ^ k + j = omega arith in
-          rw (place, joined-last k (up_at k even) (up_at k odd) j j_lt, plain_last k x j below, difference_error (pos 1048576) (up_at k even j) (scaled_product (stage_turn k j) (up_at k odd j)) (plain_at k even j) (turned_plain k odd j))
-            (size-minus b (b + b / 1048576 + 2 ^ k * (size * 1387885) / 1048576 + 741458) _ _ (near_up k size even (omega arith) (λ m. h (2 * m)) j j_lt) (turned j j_lt)) ]
+            let j = n - 2 ^ k in
+            let j_lt : j < 2 ^ k = omega (arith, pow-suc 2 k) in
+            let place : n ≡ 2 ^ k + j = omega arith in
+            rw (place, joined-last k (up_at k even) (up_at k odd) j j_lt, plain_last k x j below, difference_error (pos 1048576) (up_at k even j) (scaled_product (stage_turn k j) (up_at k odd j)) (plain_at k even j) (turned_plain k odd j))
+            (size-minus b (b + b / 1048576 + 2 ^ k * (size * 1387885) / 1048576 + 741458) _ _ (near_up k size even (omega arith) (λ m. h (2 * m)) j j_lt) (turned j j_lt))
+      ]
 
   -- all 64
   pub near_up_sums : (size : ℕ) (x : ℕ → Cx) → ((m : ℕ) → IsOfSize size (x m)) → (n : ℕ) → n < 64 → IsOfSize (budget_of 6 size) (minus (multiple (pos 1048576) (up_at 6 x n)) (plain_up x n))

@@ -1,7 +1,8 @@
 -- How far staged sums may be from plain ones, join by join (own).
 use Rattle.std.specs.Prelude.{ℕ, zero, suc, ◌+◌, ◌*◌, ◌/◌, ◌^◌}
 
--- in units of 1 / 2^20: a join of 2^k and 2^k sums adds the even sums' budget, that of the odd sums turned, the errors of the table and the rounding
+-- in units of 1 / 2^20: a join of 2^k and 2^k sums adds the even sums' budget, that of the odd sums turned, the
+-- errors of the table and the rounding
 abbrev pub joined_budget : ℕ → ℕ → ℕ → ℕ
 joined_budget k size budget =
     budget + (budget + budget / 1048576 + 2 ^ k * (size * 1387885) / 1048576 + 741458)
@@ -15,7 +16,8 @@ budget_of (suc k) size = joined_budget k size (budget_of k size)
 abbrev pub grown_size : ℕ → ℕ
 grown_size size = 2 * size + 2 * size / 1048576 + 2
 
--- the budget of staged sums `down` of 2^k pairs of at most a size: that of the next level, and the errors of rounding and of the table in a stage's differences
+-- the budget of staged sums `down` of 2^k pairs of at most a size: that of the next level, and the errors of
+-- rounding and of the table in a stage's differences
 abbrev pub down_budget_of : ℕ → ℕ → ℕ
 down_budget_of zero size = 0
 down_budget_of (suc k) size =

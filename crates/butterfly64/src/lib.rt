@@ -8,11 +8,10 @@ ghost use Rattle.butterfly64.specs.StagedSums.{entry, up_at, down_at, up_sums, d
 ghost use Rattle.butterfly64.specs.Bounds.{AreWithin, AreOfSize};
 ghost use Rattle.butterfly64.specs.MirrorOrder.{mirror_of};
 
-pub mod laws;
-
 mod eights;
 mod lane_turns;
 mod lanes;
+pub mod laws;
 mod many_eights;
 
 use crate::many_eights::{down_eights, eights, pairs, up_eights};
