@@ -14,3 +14,4 @@ pub mod PlainSumLaws
 pub mod UpBudget
 pub mod DownBudget
 pub mod SampleBudgets
+pub mod PlainBack

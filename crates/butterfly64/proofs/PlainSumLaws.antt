@@ -35,7 +35,7 @@ times_plus w a b = pair_of _ _ (re w.re w.im a.re a.im b.re b.im) (im w.re w.im 
     im : (p q a b c d : ℤ) → p *ℤ (b +ℤ d) +ℤ q *ℤ (a +ℤ c) ≡ (p *ℤ b +ℤ q *ℤ a) +ℤ (p *ℤ d +ℤ q *ℤ c)
     im = ring 6 (λ p q a b c d. p ⊗ (b ⊕ d) ⊕ q ⊗ (a ⊕ c) ≗ (p ⊗ b ⊕ q ⊗ a) ⊕ (p ⊗ d ⊕ q ⊗ c)) refl
 
-times_zero : (w : Cx) → times w zero_pair ≡ zero_pair
+pub times_zero : (w : Cx) → times w zero_pair ≡ zero_pair
 unfolding times
 times_zero w = pair_of _ _ (re w.re w.im) (im w.re w.im)
   where
@@ -51,7 +51,7 @@ multiple_plus c a b = pair_of _ _ (law c a.re b.re) (law c a.im b.im)
     law : (c a b : ℤ) → c *ℤ (a +ℤ b) ≡ c *ℤ a +ℤ c *ℤ b
     law = ring 3 (λ c a b. c ⊗ (a ⊕ b) ≗ c ⊗ a ⊕ c ⊗ b) refl
 
-multiple_zero : (c : ℤ) → multiple c zero_pair ≡ zero_pair
+pub multiple_zero : (c : ℤ) → multiple c zero_pair ≡ zero_pair
 multiple_zero c = pair_of _ _ (law c) (law c)
   where
     law : (c : ℤ) → c *ℤ pos 0 ≡ pos 0

@@ -8,7 +8,7 @@ use Rattle.fixed_complex.specs.Turns.{turn_at}
 use Rattle.butterfly64.proofs.ByPlace.{passes_at}
 
 -- a turn is one of 64
-same_turn : (m : ℕ) → turn_at m ≡ turn_at (m % 64)
+pub same_turn : (m : ℕ) → turn_at m ≡ turn_at (m % 64)
 unfolding turn_at
 same_turn m =
     let first : m % 64 ≡ m % 64 % 64 = omega arith in

@@ -8,7 +8,7 @@ ghost use Rattle.butterfly64.specs.PlainSums.{plain_down, plain_up};
 ghost use Rattle.butterfly64.specs.Samples.{by_256, received_pair, sent_pair};
 ghost use Rattle.butterfly64.specs.StagedSums.{down_at, up_at};
 
-use fixed_complex::laws::{product_of_turns, whole_half_and_quarter_turns};
+use fixed_complex::laws::{product_of_turns, sum_over_a_turn, whole_half_and_quarter_turns};
 
 /// 2^20 times the staged sums `up` are near the plain sums: where no pair is larger than a size, the difference is
 /// at most the budget of six joins of that size (own).
@@ -48,4 +48,15 @@ pub fn received_carriers()
 {
     whole_half_and_quarter_turns();
     product_of_turns();
+}
+
+/// The plain sum `down` of the plain sum `up` gives each carrier back, times 2^46, which is 32 carriers times 2^41, to
+/// within 9 times 2^41 in each component, where no component of a carrier is larger than 954 (own).
+pub fn plain_sums_undone()
+    ensures { (x : ℕ → Cx) → ((c : ℕ) → IsWithin 954 (x c)) → (c : ℕ) → c < 64 → IsWithin (9 * 2 ^ 41)
+        (minus (plain_down (plain_up x) c) (multiple (pos (2 ^ 46)) (x c))) }
+{
+    whole_half_and_quarter_turns();
+    product_of_turns();
+    sum_over_a_turn();
 }

@@ -1,8 +1,8 @@
 //! The transform of 64 pairs, up and down, in staged whole numbers (own). No call takes memory.
 #![tactic(auto)]
 
-ghost use Rattle.std.specs.Prelude.{◌≡◌, ℕ, ◌+◌, ◌-◌, ◌*◌, ◌/◌, ◌^◌, ◌<◌, ◌≤◌, length};
-ghost use Rattle.fixed_complex.specs.Pairs.{IsWithin, IsOfSize, conjugate, plus, minus, scaled_product};
+ghost use Rattle.std.specs.Prelude.{◌≡◌, ℕ, ◌+◌, ◌-◌, ◌*◌, ◌^◌, ◌<◌, ◌≤◌, length};
+ghost use Rattle.fixed_complex.specs.Pairs.{IsOfSize, conjugate, plus, minus, scaled_product};
 ghost use Rattle.fixed_complex.specs.Turns.{turn_at};
 ghost use Rattle.butterfly64.specs.StagedSums.{entry, up_at, down_at, up_sums, down_sums};
 ghost use Rattle.butterfly64.specs.Bounds.{AreWithin, AreOfSize};
