@@ -5,7 +5,7 @@ ghost use Rattle.fixed_complex.specs.Pairs.{IsOfSize, IsWithin, minus, multiple}
 ghost use Rattle.fixed_complex.specs.declared.Cx.{Cx};
 ghost use Rattle.butterfly64.specs.Budgets.{budget_of, down_budget_of};
 ghost use Rattle.butterfly64.specs.PlainSums.{plain_down, plain_up};
-ghost use Rattle.butterfly64.specs.Samples.{by_256, received_pair, sent_pair};
+ghost use Rattle.butterfly64.specs.Samples.{by_256, rounded_pair};
 ghost use Rattle.butterfly64.specs.StagedSums.{down_at, up_at};
 
 use fixed_complex::laws::{product_of_turns, sum_over_a_turn, whole_half_and_quarter_turns};
@@ -34,17 +34,19 @@ pub fn rounding_of_down()
 /// of the carriers, in each component, where no component of a carrier is larger than 954 (own).
 pub fn sent_samples()
     ensures { (x : ℕ → Cx) → ((c : ℕ) → IsWithin 954 (x c)) → (n : ℕ) → n < 64 → IsWithin (2 ^ 21)
-        (minus (multiple (pos (2 ^ 21)) (sent_pair (up_at 6 (by_256 x) n))) (plain_up x n)) }
+        (minus (multiple (pos (2 ^ 21)) (rounded_pair 9 (up_at 6 (by_256 x) n))) (plain_up x n)) }
 {
     whole_half_and_quarter_turns();
     product_of_turns();
 }
 
 /// A received carrier, the staged sum `down` of samples times 256, over 256 and rounded half up, is within 40 of the
-/// plain sum of the samples over 2^20, in each component, for all samples of 16 bits (own).
+/// plain sum of the samples over 2^20, in each component, and at most 2^22 in size, for all samples of 16 bits (own).
 pub fn received_carriers()
-    ensures { (r : ℕ → Cx) → ((n : ℕ) → IsWithin (2 ^ 15) (r n)) → (c : ℕ) → c < 64 → IsWithin (40 * 2 ^ 20)
-        (minus (multiple (pos (2 ^ 20)) (received_pair (down_at 6 (by_256 r) c))) (plain_down r c)) }
+    ensures near { (r : ℕ → Cx) → ((n : ℕ) → IsWithin (2 ^ 15) (r n)) → (c : ℕ) → c < 64 → IsWithin (40 * 2 ^ 20)
+        (minus (multiple (pos (2 ^ 20)) (rounded_pair 8 (down_at 6 (by_256 r) c))) (plain_down r c)) }
+    ensures size { (r : ℕ → Cx) → ((n : ℕ) → IsWithin (2 ^ 15) (r n)) → (c : ℕ) → c < 64
+        → IsOfSize (2 ^ 22) (rounded_pair 8 (down_at 6 (by_256 r) c)) }
 {
     whole_half_and_quarter_turns();
     product_of_turns();
