@@ -1,0 +1,7 @@
+pub mod Tables
+pub mod BitCases
+pub mod Gray
+pub mod Counting
+pub mod Levels
+pub mod Nearness
+pub mod Backs

@@ -1,0 +1,8 @@
+use Rattle.constellations.proofs.Tables.{bin-lt, bin-distinct}
+use Rattle.constellations.proofs.laws.bins_of_carriers.Goals as goal
+
+pub returns-clause-within : goal.returns-clause-within
+returns-clause-within c = bin-lt
+
+pub returns-clause-distinct : goal.returns-clause-distinct
+returns-clause-distinct c = bin-distinct

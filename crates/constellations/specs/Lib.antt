@@ -1,0 +1,4 @@
+pub mod Axes
+pub mod Points
+pub mod Decisions
+pub mod Carriers

@@ -1,0 +1,229 @@
+//! The points of the four modulations, the decisions back to bits, and where data and bins stand
+//! (IEEE Std 802.11-2012, 18.3.5.8 and 18.3.5.10). No call takes memory.
+#![tactic(auto)]
+
+ghost use Rattle.std.specs.Prelude.{◌≡◌, ℕ, ◌+◌, ◌-◌, ◌*◌, ◌^◌, ◌<◌, ◌≤◌, IsTrue, length, slice_index, ℤ, pos, neg_ℤ, ◌≤ℤ◌, unsigned_abs};
+ghost use Rattle.bit_lists.specs.Bits.{AreBits};
+ghost use Rattle.fixed_complex.specs.Pairs.{IsWithin};
+ghost use Rattle.constellations.specs.Axes.{amplitude_of, axis_of, axis_width, gray_bit, level_bits, place_of};
+ghost use Rattle.constellations.specs.Carriers.{bin_of, carries_data, data_carrier_of};
+ghost use Rattle.constellations.specs.Decisions.{decided, lies_above, thresholds, thresholds_below};
+ghost use Rattle.constellations.specs.Points.{point_of};
+
+pub mod laws;
+
+use fixed_complex::Cx;
+use rate_table::Modulation;
+
+/// The point of the first N_BPSC bits, each entry 0 or 1; the entries behind them play no part (IEEE Std 802.11-2012,
+/// 18.3.5.8; the amplitudes are own).
+pub fn point(modulation: Modulation, bits: &[u8; 6]) -> Cx
+    requires { AreBits bits.now }
+    ensures point { result ≡ point_of modulation bits.now }
+    ensures within { IsWithin 700 result }
+{
+    match modulation {
+        Modulation::Bpsk => Cx {
+            re: axis(modulation, &bits[..1]),
+            im: 0,
+        },
+        Modulation::Qpsk => Cx {
+            re: axis(modulation, &bits[..1]),
+            im: axis(modulation, &bits[1..2]),
+        },
+        Modulation::Qam16 => Cx {
+            re: axis(modulation, &bits[..2]),
+            im: axis(modulation, &bits[2..4]),
+        },
+        Modulation::Qam64 => Cx {
+            re: axis(modulation, &bits[..3]),
+            im: axis(modulation, &bits[3..6]),
+        },
+    }
+}
+
+/// The bits of a received point, with 0 in the entries past N_BPSC. `z` is the point times the conjugate of the
+/// channel, each component at most 2^46 in size, and `m` the square of the channel's size, from 0 to 2^47. An axis
+/// lies above threshold t where 1296 times it is at least t times `m` (own).
+pub fn decide(modulation: Modulation, z: Cx, m: i64) -> [u8; 6]
+    requires z { IsWithin (2 ^ 46) z }
+    requires m_least { pos 0 ≤ℤ m }
+    requires m_most { m ≤ℤ pos (2 ^ 47) }
+    ensures decided { result ≡ decided modulation z m }
+    ensures bits { AreBits result }
+{
+    let i = place_reached(modulation, z.re, m);
+    let q = place_reached(modulation, z.im, m);
+    match modulation {
+        Modulation::Bpsk => [gray_bit(i, 0), 0, 0, 0, 0, 0],
+        Modulation::Qpsk => [gray_bit(i, 0), gray_bit(q, 0), 0, 0, 0, 0],
+        Modulation::Qam16 => [
+            gray_bit(i, 1),
+            gray_bit(i, 0),
+            gray_bit(q, 1),
+            gray_bit(q, 0),
+            0,
+            0,
+        ],
+        Modulation::Qam64 => [
+            gray_bit(i, 2),
+            gray_bit(i, 1),
+            gray_bit(i, 0),
+            gray_bit(q, 2),
+            gray_bit(q, 1),
+            gray_bit(q, 0),
+        ],
+    }
+}
+
+/// The carrier, from -26 to 26, of data number k, from 0 to 47 (IEEE Std 802.11-2012, 18.3.5.10).
+pub fn data_carrier(k: usize) -> i32
+    requires { k < 48 }
+    ensures carrier { result ≡ data_carrier_of k }
+{
+    let k = k as i32;
+    match k {
+        0..=4 => k - 26,
+        5..=17 => k - 25,
+        18..=23 => k - 24,
+        24..=29 => k - 23,
+        30..=42 => k - 22,
+        _ => k - 21,
+    }
+}
+
+/// The bin of a carrier from -32 to 31: the carrier modulo 64 (own).
+pub fn bin(carrier: i32) -> usize
+    requires least { neg_ℤ (pos 32) ≤ℤ carrier }
+    requires most { carrier ≤ℤ pos 31 }
+    ensures bin { result ≡ bin_of carrier }
+    ensures within { result < 64 }
+{
+    carrier.rem_euclid(64) as usize
+}
+
+// An axis of a point: the level of its bits, in the modulation's amplitude.
+fn axis(modulation: Modulation, bits: &[u8]) -> i64
+    requires bits { AreBits bits.now }
+    requires width { length bits.now ≡ axis_width modulation }
+    ensures axis { result ≡ axis_of modulation bits.now }
+    ensures within { unsigned_abs result ≤ 700 }
+{
+    amplitude(modulation) * (2 * i64::from(place(modulation, bits)) - highest(modulation))
+}
+
+// The place of an axis's level, counted from 0 at the lowest: the bits are the Gray code of the place.
+fn place(modulation: Modulation, bits: &[u8]) -> u8
+    requires bits { AreBits bits.now }
+    requires width { length bits.now ≡ axis_width modulation }
+    ensures place { result ≡ place_of modulation bits.now }
+    ensures within { result < length (level_bits modulation) }
+{
+    let mut place = 0;
+    for bit in bits {
+        place = 2 * place + (place ^ *bit) % 2;
+    }
+    place
+}
+
+// A bit of the Gray code of a place, 0 being the least significant.
+fn gray_bit(place: u8, bit: u32) -> u8
+    requires place { place < 8 }
+    requires bit { bit < 3 }
+    ensures gray { result ≡ gray_bit place bit }
+    ensures bit { result < 2 }
+{
+    ((place ^ (place >> 1)) >> bit) & 1
+}
+
+// How many thresholds an axis lies above: the place of its level.
+fn place_reached(modulation: Modulation, part: i64, m: i64) -> u8
+    requires part { unsigned_abs part ≤ 2 ^ 46 }
+    requires m { unsigned_abs m ≤ 2 ^ 47 }
+    ensures place { result ≡ thresholds_below modulation part m }
+    ensures within { result ≤ length (thresholds modulation) }
+{
+    let mut above = 0;
+    for threshold in thresholds(modulation) {
+        if lies_above(part, m, *threshold) {
+            above += 1;
+        }
+    }
+    above
+}
+
+// Whether an axis lies above a threshold, where the square of the channel's size is m.
+fn lies_above(part: i64, m: i64, threshold: i64) -> bool
+    requires part { unsigned_abs part ≤ 2 ^ 46 }
+    requires m { unsigned_abs m ≤ 2 ^ 47 }
+    requires threshold { unsigned_abs threshold ≤ 2 ^ 10 }
+    ensures { result ≡ lies_above part m threshold }
+{
+    1296 * i128::from(part) >= i128::from(threshold) * i128::from(m)
+}
+
+// The highest level. The lowest is its negative, and neighbours are 2 apart.
+fn highest(modulation: Modulation) -> i64
+    ensures { result ≡ pos (length (level_bits modulation) - 1) }
+{
+    match modulation {
+        Modulation::Bpsk | Modulation::Qpsk => 1,
+        Modulation::Qam16 => 3,
+        Modulation::Qam64 => 7,
+    }
+}
+
+// The size of level 1.
+fn amplitude(modulation: Modulation) -> i64
+    ensures { result ≡ pos (amplitude_of modulation) }
+{
+    match modulation {
+        Modulation::Bpsk => 648,
+        Modulation::Qpsk => 458,
+        Modulation::Qam16 => 205,
+        Modulation::Qam64 => 100,
+    }
+}
+
+// The thresholds of an axis, halfway between neighbouring levels.
+fn thresholds(modulation: Modulation) -> &'static [i64]
+    ensures { result.now ≡ thresholds modulation }
+{
+    match modulation {
+        Modulation::Bpsk | Modulation::Qpsk => &[0],
+        Modulation::Qam16 => &[-410, 0, 410],
+        Modulation::Qam64 => &[-600, -400, -200, 0, 200, 400, 600],
+    }
+}
+
+#[cfg(test)]
+mod tests {
+    use super::*;
+
+    #[test]
+    fn points_of_given_bits(rt: HostRuntime) {
+        let corner = Cx { re: 700, im: -300 };
+        assert!(rt; point(Modulation::Qam64, &[1, 0, 0, 0, 1, 1]) == corner);
+        let edge = Cx { re: 615, im: -205 };
+        assert!(rt; point(Modulation::Qam16, &[1, 0, 0, 1, 0, 0]) == edge);
+    }
+
+    #[test]
+    fn decisions_at_and_beside_thresholds(rt: HostRuntime) {
+        let at = Cx { re: 410, im: 409 };
+        assert!(rt; decide(Modulation::Qam16, at, 1296) == [1, 0, 1, 1, 0, 0]);
+        let beside = Cx { re: -601, im: 600 };
+        assert!(rt; decide(Modulation::Qam64, beside, 1296) == [0, 0, 0, 1, 0, 0]);
+        let nothing = Cx { re: 0, im: 0 };
+        assert!(rt; decide(Modulation::Bpsk, nothing, 0) == [1, 0, 0, 0, 0, 0]);
+    }
+
+    #[test]
+    fn carriers_beside_the_pilots(rt: HostRuntime) {
+        for (k, carrier) in [(0, -26), (5, -20), (23, -1), (24, 1), (42, 20), (47, 26)] {
+            assert!(rt; data_carrier(k) == carrier);
+        }
+        assert!(rt; bin(-26) == 38);
+        assert!(rt; bin(26) == 26);
+    }
+}

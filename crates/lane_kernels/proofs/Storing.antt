@@ -1,0 +1,92 @@
+-- Samples stored place by place.
+use Rattle.std.proofs.Common.{◌≡◌, inl, inr, ◌≢◌, ℕ, zero, suc, ◌+◌, ◌<◌, ◌≤◌, List, [], ◌∷◌, length, get_or, set, ℤ, pos, negsuc, ◌+ℤ◌, to_z, of_z, refl, sym, ap, ◌∙◌, arith}
+use Rattle.std.proofs.lemmas.Bool.{cases_lt}
+use Rattle.std.specs.Prelude.{FitsSigned}
+use Rattle.std.specs.Int.{saturate_signed}
+use Rattle.std.proofs.lemmas.Int.{ints, clamps, to_z-of_z}
+use Rattle.std.proofs.lemmas.List.{ext_get_or}
+use Rattle.std.proofs.Common.{get_or-set_other, get_or-set_same}
+use Rattle.fixed_complex.specs.declared.Sample.{Sample}
+use Rattle.lane_kernels.specs.Kernels.{held, held_sum, held_sums}
+use Rattle.lane_kernels.specs.Lanes.{HoldsSums, eight, number_at, sample_at}
+use Rattle.lane_kernels.proofs.Holding.{held-fits}
+use Rattle.lane_kernels.proofs.Totals.{eight-at}
+use mir.Syntax.{w16}
+
+-- nothing stored yet
+pub sums-none : (from upto : ℕ) (old b : List Sample) → upto ≤ from → HoldsSums from upto old b old
+sums-none from upto old b h = record {
+  before = λ n _. refl;
+  within = λ n least below. absurd (omega arith);
+  behind = λ n _. refl;
+}
+
+-- one place more
+pub sums-more : (from upto next : ℕ) (old b new : List Sample) (value : Sample) → next ≡ upto + 1 → from ≤ upto → upto < length new → value ≡ held_sum (sample_at old upto) (sample_at b upto) → HoldsSums from upto old b new → HoldsSums from next old b (set new upto value)
+sums-more from upto next old b new value e least room is h =
+    let other = λ (n : ℕ) (apart : n ≢ upto). get_or-set_other new upto n value (record { i = pos 0; q = pos 0 }) apart in
+    record {
+      before = λ n below. let apart : n ≢ upto = omega arith in other n apart ∙ h.before n below;
+      within = λ n from_n below.
+        elim (cases_lt n upto) [
+          inl here ↦ let apart : n ≢ upto = omega arith in other n apart ∙ h.within n from_n here
+        | inr there ↦ let at : n ≡ upto = omega arith in rw at (get_or-set_same new upto value (record { i = pos 0; q = pos 0 }) room ∙ is)
+        ];
+      behind = λ n past. let apart : n ≢ upto = omega arith in other n apart ∙ h.behind n (omega arith);
+    }
+
+-- a stretch behind another
+pub sums-join : (from mid upto : ℕ) (old b half new : List Sample) → from ≤ mid → mid ≤ upto → HoldsSums from mid old b half → HoldsSums mid upto half b new → HoldsSums from upto old b new
+sums-join from mid upto old b half new low high first second = record {
+  before = λ n below. second.before n (omega arith) ∙ first.before n below;
+  within = λ n least below.
+    elim (cases_lt n mid) [
+      inl here ↦ second.before n here ∙ first.within n least here
+    | inr there ↦ second.within n there below ∙ ap (λ s. held_sum s (sample_at b n)) (first.behind n there)
+    ];
+  behind = λ n past. second.behind n past ∙ first.behind n (omega arith);
+}
+
+-- a held sum in its lane
+pub lane-held : (x y new : List ℤ) (f g : ℕ → ℤ) → x ≡ eight f → y ≡ eight g → new ≡ eight (λ n. held (number_at x n +ℤ number_at y n)) → (n : ℕ) → n < 8 → to_z w16 (of_z w16 (number_at new n)) ≡ held (f n +ℤ g n)
+lane-held x y new f g x_is y_is new_is n below =
+    let x_at : number_at x n ≡ f n = ap (λ l. number_at l n) x_is ∙ eight-at f n below in
+    let y_at : number_at y n ≡ g n = ap (λ l. number_at l n) y_is ∙ eight-at g n below in
+    let here : number_at new n ≡ held (f n +ℤ g n) =
+      ap (λ l. number_at l n) new_is
+      ∙ (eight-at (λ m. held (number_at x m +ℤ number_at y m)) n below
+        ∙ (ap (λ z. held (z +ℤ number_at y n)) x_at ∙ ap (λ z. held (f n +ℤ z)) y_at)) in
+    rw here (to_z-of_z w16 (held (f n +ℤ g n)) (held-fits (f n +ℤ g n)))
+
+-- samples with the same components
+pub same_sample : (s t : Sample) → s.i ≡ t.i → s.q ≡ t.q → s ≡ t
+same_sample s t i q = λ k. record { i = i k; q = q k }
+
+-- std's saturation holds a number
+pub saturated : (v : ℤ) → saturate_signed w16 v ≡ held v
+saturated (pos n) = omega (arith, ints, clamps)
+saturated (negsuc n) = omega (arith, ints, clamps)
+
+pub saturated_sum : (r a b : ℤ) → FitsSigned w16 a → FitsSigned w16 b → r ≡ saturate_signed w16 (to_z w16 (of_z w16 a) +ℤ to_z w16 (of_z w16 b)) → to_z w16 (of_z w16 r) ≡ held (a +ℤ b)
+saturated_sum r a b a_fits b_fits is =
+    let here : r ≡ held (a +ℤ b) = rw (to_z-of_z w16 a a_fits, to_z-of_z w16 b b_fits, saturated (a +ℤ b)) at is in
+    rw here (to_z-of_z w16 (held (a +ℤ b)) (held-fits (a +ℤ b)))
+
+-- the whole list
+length-held_sums : (xs ys : List Sample) → length xs ≡ length ys → length (held_sums xs ys) ≡ length xs
+unfolding held_sums
+length-held_sums [] ys h = refl
+length-held_sums (x ∷ xs) [] h = absurd (omega arith)
+length-held_sums (x ∷ xs) (y ∷ ys) h = ap suc (length-held_sums xs ys (omega arith))
+
+held_sums-at : (xs ys : List Sample) (n : ℕ) → length xs ≡ length ys → n < length xs → sample_at (held_sums xs ys) n ≡ held_sum (sample_at xs n) (sample_at ys n)
+unfolding held_sums
+held_sums-at [] ys n h below = absurd (omega arith)
+held_sums-at (x ∷ xs) [] n h below = absurd (omega arith)
+held_sums-at (x ∷ xs) (y ∷ ys) zero h below = refl
+held_sums-at (x ∷ xs) (y ∷ ys) (suc n) h below = held_sums-at xs ys n (omega arith) (omega arith)
+
+pub sums-whole : (old b new : List Sample) (upto : ℕ) → upto ≡ length old → length old ≡ length b → length new ≡ length old → HoldsSums 0 upto old b new → new ≡ held_sums old b
+sums-whole old b new upto e h len sums =
+    ext_get_or (record { i = pos 0; q = pos 0 }) new (held_sums old b) (omega (arith, length-held_sums old b h))
+    (λ n below. sums.within n (omega arith) (omega arith) ∙ sym (held_sums-at old b n h (omega arith)))

@@ -1,0 +1,91 @@
+-- Numbers of 16 bits in lanes of 16 and of 64 bits.
+use Rattle.std.proofs.Common.{◌≡◌, ℕ, zero, suc, ◌*◌, ◌%◌, ◌+◌, ◌^◌, ◌<◌, ◌≤◌, List, [], ◌∷◌, map, length, Bool, true, false, cond, not, leb, eqb, replicate, ℤ, pos, negsuc, neg_ℤ, ◌≤ℤ◌, to_z, of_z, w64, refl, sym, ap, ◌∙◌, arith}
+use Rattle.std.specs.Prelude.{FitsSigned, int_lt, nat_lt, unsigned_abs}
+use Rattle.std.specs.Simd.Lanes.{zip2, mask_l, top}
+use Rattle.std.proofs.lemmas.Int.{ints, to_z-of_z}
+use Rattle.std.proofs.lemmas.Simd.{mask_l-mod, length-zip2}
+use Rattle.std.proofs.lemmas.Bool.Decides.{nat_tests}
+use borrow.Rule.Simd.Lanes.{act1, act2}
+use borrow.Table.Row.{s_int}
+use mir.Syntax.{cast, mask, lt, signed, w16}
+use Rattle.lane_kernels.specs.Lanes.{AreOf16Bits, AreWithin, IsOf16Bits, number_at}
+
+-- a number of 16 bits, as the code passes it on
+abbrev pub component : ℤ → ℤ
+component z = to_z w16 (of_z w16 z)
+
+pub of_16_bits : (z : ℤ) → FitsSigned w16 z → IsOf16Bits z
+of_16_bits z h = record { least = omega (arith, ints); most = omega (arith, ints) }
+
+pub component_of_16_bits : (z : ℤ) → FitsSigned w16 z → IsOf16Bits (component z)
+component_of_16_bits z h = record { least = omega (arith, ints); most = omega (arith, ints) }
+
+-- wider lanes hold the same numbers
+pub widened-is : (xs : List ℤ) → AreOf16Bits xs → map (to_z w64) (map (act1 (cast signed signed w64) (s_int w16) (s_int w64)) (map (of_z w16) xs)) ≡ xs
+widened-is [] h = refl
+widened-is (x ∷ xs) h =
+    let rest = widened-is xs (λ n. h (suc n)) in
+    let fits = h 0 in
+    let here : to_z w64 (of_z w64 (to_z w16 (of_z w16 x))) ≡ x = omega (arith, ints) in
+    cc
+
+pub within-16_bits : (xs : List ℤ) → AreOf16Bits xs → AreWithin (2 ^ 15) xs
+within-16_bits xs h = λ n. let fits = h n in omega (arith, ints)
+
+-- no bit of a mask is set
+empty_mask : (t : Bool) (m : ℕ) → cond (leb 32768 (cond t 65535 0)) 1 0 + 2 * m ≡ 0 → (t ≡ false) × (m ≡ 0)
+empty_mask true m e = absurd (omega arith)
+empty_mask false m e = (refl, omega arith)
+
+-- the mask of the lanes above 256, and of those below -256
+abbrev above_lanes : List ℤ → ℕ → List Bool
+above_lanes xs k = map (top 15) (zip2 (act2 (mask (lt signed)) (s_int w16) (s_int w16) (s_int w16)) (replicate k 256) (map (of_z w16) xs))
+
+abbrev below_lanes : List ℤ → ℕ → List Bool
+below_lanes xs k = map (top 15) (zip2 (act2 (mask (lt signed)) (s_int w16) (s_int w16) (s_int w16)) (map (of_z w16) xs) (replicate k 65280))
+
+not_above : (xs : List ℤ) (k : ℕ) → AreOf16Bits xs → length xs ≡ k → mask_l (above_lanes xs k) ≡ 0 → (n : ℕ) → number_at xs n ≤ℤ pos 256
+not_above [] k h e m n = omega (arith, ints)
+not_above (x ∷ xs) zero h e m n = absurd (omega arith)
+not_above (x ∷ xs) (suc k) h e m zero =
+    let fits = h 0 in
+    let front : int_lt (pos 256) (component x) ≡ false = (empty_mask (int_lt (pos 256) (component x)) (mask_l (above_lanes xs k)) m).0 in
+    grind (arith, ints)
+not_above (x ∷ xs) (suc k) h e m (suc n) =
+    not_above xs k (λ i. h (suc i)) (omega arith) (empty_mask (int_lt (pos 256) (component x)) (mask_l (above_lanes xs k)) m).1 n
+
+not_below : (xs : List ℤ) (k : ℕ) → AreOf16Bits xs → length xs ≡ k → mask_l (below_lanes xs k) ≡ 0 → (n : ℕ) → neg_ℤ (pos 256) ≤ℤ number_at xs n
+not_below [] k h e m n = omega (arith, ints)
+not_below (x ∷ xs) zero h e m n = absurd (omega arith)
+not_below (x ∷ xs) (suc k) h e m zero =
+    let fits = h 0 in
+    let front : int_lt (component x) (negsuc 255) ≡ false = (empty_mask (int_lt (component x) (negsuc 255)) (mask_l (below_lanes xs k)) m).0 in
+    grind (arith, ints)
+not_below (x ∷ xs) (suc k) h e m (suc n) =
+    not_below xs k (λ i. h (suc i)) (omega arith) (empty_mask (int_lt (component x) (negsuc 255)) (mask_l (below_lanes xs k)) m).1 n
+
+length-above : (xs : List ℤ) (k : ℕ) → length xs ≡ k → length (above_lanes xs k) ≡ k
+length-above [] zero e = refl
+length-above [] (suc k) e = absurd (omega arith)
+length-above (x ∷ xs) zero e = absurd (omega arith)
+length-above (x ∷ xs) (suc k) e = ap suc (length-above xs k (omega arith))
+
+length-below : (xs : List ℤ) (k : ℕ) → length xs ≡ k → length (below_lanes xs k) ≡ k
+length-below [] zero e = refl
+length-below [] (suc k) e = absurd (omega arith)
+length-below (x ∷ xs) zero e = absurd (omega arith)
+length-below (x ∷ xs) (suc k) e = ap suc (length-below xs k (omega arith))
+
+-- a test that a number isn't 0
+pub zero_where_not : (m : ℕ) → not (eqb m 0) ≡ false → m ≡ 0
+zero_where_not m h = grind (arith, nat_tests)
+
+-- eight numbers of which neither mask has one are at most 256 in size
+pub not_large : (xs : List ℤ) → AreOf16Bits xs → length xs ≡ 8 → mask_l (above_lanes xs 8) % 2 ^ 64 ≡ 0 → mask_l (below_lanes xs 8) % 2 ^ 64 ≡ 0 → (n : ℕ) → nat_lt 256 (unsigned_abs (number_at xs n)) ≡ false
+not_large xs h long above below n =
+    let above_long : length (above_lanes xs 8) ≤ 64 = omega (arith, length-above xs 8 long) in
+    let below_long : length (below_lanes xs 8) ≤ 64 = omega (arith, length-below xs 8 long) in
+    let high = not_above xs 8 h long (sym (mask_l-mod (above_lanes xs 8) 64 above_long) ∙ above) n in
+    let low = not_below xs 8 h long (sym (mask_l-mod (below_lanes xs 8) 64 below_long) ∙ below) n in
+    let size : unsigned_abs (number_at xs n) ≤ 256 = omega (arith, ints) in
+    grind (arith, nat_tests)

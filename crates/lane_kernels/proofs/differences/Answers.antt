@@ -1,0 +1,22 @@
+use Rattle.std.proofs.Common.{◌≡◌, ◌+◌, length, refl, arith}
+use Rattle.std.proofs.lemmas.Bool.Decides.{nat_tests}
+use Rattle.lane_kernels.proofs.ByteMasks.{differences-one, take-whole}
+use Rattle.lane_kernels.proofs.differences.Goals.{then-a-n, else-a-n}
+use Rattle.lane_kernels.proofs.differences.Goals as goal
+
+pub loop-n-init : goal.loop-n-init
+loop-n-init c = record { so_far = c.lane_differences-differences.ensures.count; within = c.lane_differences-differences.ensures.within }
+
+pub loop-n-preserved : goal.loop-n-preserved
+loop-n-preserved c =
+    let n = c.loop-n.n in
+    let one = differences-one c.args.a.now c.args.b.now n (omega arith) c.requires.long in
+    elim c.if-a-n.branch [
+      then-a-n w ↦ record { so_far = grind (arith, nat_tests); within = omega arith }
+    | else-a-n w ↦ record { so_far = grind (arith, nat_tests); within = omega arith }
+    ]
+
+pub returns : goal.returns
+returns c =
+    let whole : c.loop-n.n ≡ length c.args.a.now = omega arith in
+    rw (whole, take-whole c.args.a.now (length c.args.a.now) refl, take-whole c.args.b.now (length c.args.a.now) (omega arith)) at c.loop-n.invariant.so_far

@@ -1,0 +1,11 @@
+use Rattle.std.proofs.Common.{◌≡◌, ◌*◌, ◌^◌, length}
+use Rattle.lane_kernels.specs.Kernels.{power_of}
+use Rattle.lane_kernels.specs.Lanes.{AreWithin, sample_at, total_below, total_of}
+use Rattle.lane_kernels.proofs.lane_powers.Given as goal
+
+abbrev pub invariant-loop-k : goal.invariant-loop-k
+invariant-loop-k l = record {
+  long : length l.sums ≡ 8;
+  so_far : total_of l.sums ≡ total_below (8 * l.k) (λ n. power_of (sample_at l.a n));
+  within : AreWithin (2 ^ 31 * l.k) l.sums;
+}

@@ -1,0 +1,12 @@
+use Rattle.std.proofs.Common.{◌≡◌, SFits, pos, rules, arith}
+use mir.Syntax.{w16}
+use Rattle.std.proofs.lemmas.Int.{to_z-of_z}
+use Rattle.lane_kernels.specs.Lanes.{IsOf16Bits, sample_at}
+use Rattle.lane_kernels.proofs.Totals.{eight-each}
+use Rattle.lane_kernels.proofs.Widening.{of_16_bits, component_of_16_bits, component}
+use Rattle.lane_kernels.proofs.q_components.Goals as goal
+
+pub returns-clause-of_16_bits : goal.returns-clause-of_16_bits
+returns-clause-of_16_bits c =
+    let a = sample_at c.args.a.now in
+    eight-each IsOf16Bits (λ n. component (a n).q) (component_of_16_bits (a 0).q (search rules)) (component_of_16_bits (a 1).q (search rules)) (component_of_16_bits (a 2).q (search rules)) (component_of_16_bits (a 3).q (search rules)) (component_of_16_bits (a 4).q (search rules)) (component_of_16_bits (a 5).q (search rules)) (component_of_16_bits (a 6).q (search rules)) (component_of_16_bits (a 7).q (search rules)) (of_16_bits (pos 0) (search rules))

@@ -1,0 +1,4 @@
+pub mod Bodies
+pub mod Bins
+pub mod Training
+pub mod Loads

@@ -1,0 +1,54 @@
+-- The short and the long training field (IEEE Std 802.11-2012, 18.3.3; the amplitudes are own).
+use Rattle.std.specs.Prelude.{ℕ, ◌+◌, ◌%◌, List, [], ◌∷◌, ◌++◌, map, ℤ, pos, negsuc, ◌*ℤ◌}
+use Rattle.std.specs.List.{range_with_len}
+use Rattle.fixed_complex.specs.declared.Cx.{Cx}
+use Rattle.fixed_complex.specs.declared.Sample.{Sample}
+use Rattle.training_fields.specs.Bins.{by_bin, sign_at}
+use Rattle.training_fields.specs.Bodies.{plain_body, sample_of}
+
+-- S: the signs of the short training field on the carriers from -26 to -1, and on those from 1 to 26
+abbrev pub short_signs_below : List ℤ
+short_signs_below =
+    pos 0 ∷ pos 0 ∷ pos 1 ∷ pos 0 ∷ pos 0 ∷ pos 0 ∷ negsuc 0 ∷ pos 0 ∷ pos 0 ∷ pos 0 ∷ pos 1 ∷ pos 0 ∷ pos 0 ∷ pos 0 ∷ negsuc 0 ∷ pos 0 ∷ pos 0 ∷ pos 0 ∷ negsuc 0 ∷ pos 0 ∷ pos 0 ∷ pos 0 ∷ pos 1 ∷ pos 0 ∷ pos 0 ∷ pos 0 ∷ []
+
+abbrev pub short_signs_above : List ℤ
+short_signs_above =
+    pos 0 ∷ pos 0 ∷ pos 0 ∷ negsuc 0 ∷ pos 0 ∷ pos 0 ∷ pos 0 ∷ negsuc 0 ∷ pos 0 ∷ pos 0 ∷ pos 0 ∷ pos 1 ∷ pos 0 ∷ pos 0 ∷ pos 0 ∷ pos 1 ∷ pos 0 ∷ pos 0 ∷ pos 0 ∷ pos 1 ∷ pos 0 ∷ pos 0 ∷ pos 0 ∷ pos 1 ∷ pos 0 ∷ pos 0 ∷ []
+
+-- L: the signs of the long training field, likewise
+abbrev pub long_signs_below : List ℤ
+long_signs_below =
+    pos 1 ∷ pos 1 ∷ negsuc 0 ∷ negsuc 0 ∷ pos 1 ∷ pos 1 ∷ negsuc 0 ∷ pos 1 ∷ negsuc 0 ∷ pos 1 ∷ pos 1 ∷ pos 1 ∷ pos 1 ∷ pos 1 ∷ pos 1 ∷ negsuc 0 ∷ negsuc 0 ∷ pos 1 ∷ pos 1 ∷ negsuc 0 ∷ pos 1 ∷ negsuc 0 ∷ pos 1 ∷ pos 1 ∷ pos 1 ∷ pos 1 ∷ []
+
+abbrev pub long_signs_above : List ℤ
+long_signs_above =
+    pos 1 ∷ negsuc 0 ∷ negsuc 0 ∷ pos 1 ∷ pos 1 ∷ negsuc 0 ∷ pos 1 ∷ negsuc 0 ∷ pos 1 ∷ negsuc 0 ∷ negsuc 0 ∷ negsuc 0 ∷ negsuc 0 ∷ negsuc 0 ∷ pos 1 ∷ pos 1 ∷ negsuc 0 ∷ negsuc 0 ∷ pos 1 ∷ negsuc 0 ∷ pos 1 ∷ negsuc 0 ∷ pos 1 ∷ pos 1 ∷ pos 1 ∷ pos 1 ∷ []
+
+abbrev pub short_sign_of : ℤ → ℤ
+short_sign_of carrier = sign_at short_signs_below short_signs_above carrier
+
+abbrev pub long_sign_of : ℤ → ℤ
+long_sign_of carrier = sign_at long_signs_below long_signs_above carrier
+
+-- what a carrier carries in the short and in the long training field
+abbrev pub short_carrier : ℤ → Cx
+short_carrier carrier = record { re = pos 954 *ℤ short_sign_of carrier; im = pos 954 *ℤ short_sign_of carrier }
+
+abbrev pub long_carrier : ℤ → Cx
+long_carrier carrier = record { re = pos 648 *ℤ long_sign_of carrier; im = pos 0 }
+
+-- the times of the short training field: 160, each with the body's sample at the time modulo 64
+abbrev pub short_times : {A : Type 0} → (ℕ → A) → List A
+short_times body = map (λ time. body (time % 64)) (range_with_len 0 160)
+
+-- the times of the long training field: a guard of 32, the end of the body, and two bodies
+abbrev pub long_times : {A : Type 0} → (ℕ → A) → List A
+long_times body = map (λ time. body ((time + 32) % 64)) (range_with_len 0 160)
+
+-- both training fields, where a body is made so of what its carriers carry
+abbrev pub preamble_of : {A : Type 0} → ((ℕ → Cx) → ℕ → A) → List A
+preamble_of body = short_times (body (by_bin short_carrier)) ++ long_times (body (by_bin long_carrier))
+
+-- the template of the search: the plain waveform of both, rounded half up to samples
+abbrev pub template_of : List Sample
+template_of = map (sample_of 21) (preamble_of plain_body)
