@@ -1,14 +1,13 @@
 -- The stages within eight lanes.
-use Rattle.std.proofs.Common.{◌≡◌, ℕ, zero, suc, ◌+◌, ◌-◌, ◌*◌, ◌/◌, ◌%◌, ◌^◌, ◌<◌, ◌≤◌, Bool, true, false, cond, ◌&&◌, ltb, List, [], ◌∷◌, get_or, refl, ap, sym, ◌∙◌, arith}
-use Rattle.std.specs.Prelude.{ℤ, pos}
+use Rattle.std.proofs.Common.{◌≡◌, ℕ, zero, suc, ◌+◌, ◌-◌, ◌*◌, ◌/◌, ◌%◌, ◌^◌, ◌<◌, ◌≤◌, true, false, cond, ltb, [], get_or, refl, ◌∙◌, arith}
 use Rattle.std.proofs.lemmas.Bool.{ltb-true}
 use Rattle.fixed_complex.specs.declared.Cx.{Cx}
-use Rattle.fixed_complex.specs.Pairs.{IsWithin, IsOfSize, plus, minus, conjugate, scaled_product}
+use Rattle.fixed_complex.specs.Pairs.{IsOfSize, plus, minus, conjugate, scaled_product}
 use Rattle.fixed_complex.specs.Turns.{turn_at}
 use Rattle.butterfly64.specs.declared.lanes.Eight.{Eight}
-use Rattle.butterfly64.specs.StagedSums.{stage_turn, up_at, down_at, joined, half_sums, turned_differences}
+use Rattle.butterfly64.specs.StagedSums.{stage_turn, up_at, down_at}
 use Rattle.butterfly64.specs.MirrorOrder.{mirror_of}
-use Rattle.butterfly64.specs.Lanes.{lane, low_place, is_low, joined_at, parted_at, EachWithin, EachOfSize}
+use Rattle.butterfly64.specs.Lanes.{lane, low_place, is_low, joined_at, parted_at, EachOfSize}
 use Rattle.butterfly64.proofs.ByPlace.{passes_below, passes_at, same_pair, pair_is_same}
 use Rattle.butterfly64.specs.declared.lane_turns.TheConstants.{TURNS}
 use Rattle.butterfly64.proofs.Sizes.{wider, size-plus, size-minus, size-conjugate, size-scaled_product}

@@ -1,10 +1,9 @@
 -- Staged sums, from one level to the next.
-use Rattle.std.proofs.Common.{◌≡◌, ℕ, zero, suc, ◌+◌, ◌-◌, ◌*◌, ◌/◌, ◌%◌, ◌^◌, ◌<◌, ◌≤◌, refl, ap, sym, ◌∙◌, arith, Bool, true, false, cond, ltb, eqb, inl, inr}
-use Rattle.std.proofs.lemmas.Bool.{cases_lt, lt-ltb}
-use Rattle.std.proofs.lemmas.Nat.{pow_pos}
-use Rattle.std.proofs.Math.Nat.{mod-eq_of_lt, mod-lt, add-mod_left, pow-suc}
+use Rattle.std.proofs.Common.{◌≡◌, ℕ, zero, suc, ◌+◌, ◌*◌, ◌/◌, ◌%◌, ◌^◌, ◌<◌, ◌∙◌, arith, true, false, ltb}
+use Rattle.std.proofs.lemmas.Bool.{lt-ltb}
+use Rattle.std.proofs.Math.Nat.{mod-eq_of_lt, add-mod_left, pow-suc}
 use Rattle.fixed_complex.specs.declared.Cx.{Cx}
-use Rattle.fixed_complex.specs.Pairs.{plus, minus, conjugate, scaled_product}
+use Rattle.fixed_complex.specs.Pairs.{plus, minus, scaled_product}
 use Rattle.butterfly64.specs.StagedSums.{stage_turn, joined, up_at, half_sums, turned_differences, down_at}
 
 -- two lists of pairs with the same pair at each place

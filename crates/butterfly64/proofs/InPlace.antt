@@ -6,8 +6,7 @@ use Rattle.std.proofs.Common.{length-append}
 use Rattle.std.proofs.Math.Nat.{pow-suc}
 use Rattle.fixed_complex.specs.declared.Cx.{Cx}
 use Rattle.fixed_complex.specs.Pairs.{zero_pair, plus, minus, conjugate, scaled_product}
-use Rattle.fixed_complex.specs.Turns.{turn_at}
-use Rattle.butterfly64.specs.StagedSums.{entry, stage_turn, joined, up_at, half_sums, turned_differences, down_at, up_sums, down_sums}
+use Rattle.butterfly64.specs.StagedSums.{entry, stage_turn, up_at, half_sums, turned_differences, down_at, up_sums, down_sums}
 use Rattle.butterfly64.specs.MirrorOrder.{mirror_of}
 use Rattle.butterfly64.specs.Bounds.{AreOfSize}
 use Rattle.butterfly64.proofs.ByPlace.{passes_at}

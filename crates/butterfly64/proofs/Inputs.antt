@@ -1,11 +1,10 @@
 -- Bounds on lists that are written pair by pair.
-use Rattle.std.proofs.Common.{◌≡◌, ℕ, ◌<◌, ◌≤◌, List, length, set, replicate, inl, inr, arith}
+use Rattle.std.proofs.Common.{ℕ, ◌<◌, List, length, set, replicate, inl, inr, arith}
 use Rattle.std.proofs.lemmas.Bool.{cases_eq}
 use Rattle.std.proofs.lemmas.List.{get_or-set_same, get_or-set_other, length-set}
 use Rattle.std.proofs.lemmas.Simd.{get_or-replicate, length-replicate}
 use Rattle.fixed_complex.specs.declared.Cx.{Cx}
 use Rattle.fixed_complex.specs.Pairs.{IsWithin, zero_pair}
-use Rattle.butterfly64.specs.StagedSums.{entry}
 use Rattle.butterfly64.specs.Bounds.{AreWithin}
 
 -- one entry replaced

@@ -10,3 +10,8 @@ pub mod LaneOps
 pub mod EightLanes
 pub mod PairsOfEights
 pub mod Inputs
+pub mod PlainSumLaws
+pub mod UpBudget
+pub mod DownBudget
+pub mod SampleBudgets
+pub mod PlainBack

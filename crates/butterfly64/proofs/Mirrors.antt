@@ -1,5 +1,5 @@
 -- The places of mirror order.
-use Rattle.std.proofs.Common.{◌≡◌, ℕ, zero, suc, ◌+◌, ◌-◌, ◌*◌, ◌/◌, ◌%◌, ◌^◌, ◌<◌, ◌≤◌, arith, refl, eqb}
+use Rattle.std.proofs.Common.{◌≡◌, ℕ, zero, suc, ◌+◌, ◌*◌, ◌/◌, ◌%◌, ◌^◌, ◌<◌, arith, refl, eqb}
 use Rattle.std.proofs.lemmas.Bool.{eqb-true}
 use Rattle.butterfly64.proofs.ByPlace.{passes_at}
 use Rattle.std.proofs.Math.Nat.{pow-suc}

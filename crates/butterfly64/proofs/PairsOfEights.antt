@@ -1,12 +1,12 @@
 -- The pairs of a list of eights, and the stages over them.
-use Rattle.std.proofs.Common.{◌≡◌, ℕ, zero, suc, ◌+◌, ◌-◌, ◌*◌, ◌/◌, ◌%◌, ◌^◌, ◌<◌, ◌≤◌, List, [], ◌∷◌, ◌++◌, length, map, get_or, set, refl, ap, sym, ◌∙◌, arith, length-append, append_assoc, inl, inr, eqb, leb}
+use Rattle.std.proofs.Common.{◌≡◌, ℕ, zero, suc, ◌+◌, ◌-◌, ◌*◌, ◌/◌, ◌%◌, ◌^◌, ◌<◌, ◌≤◌, List, [], ◌∷◌, ◌++◌, length, map, set, refl, ap, sym, ◌∙◌, arith, length-append, append_assoc, leb}
 use Rattle.std.specs.List.{range_with_len}
-use Rattle.std.proofs.lemmas.Bool.{cases_lt, eqb-true, leb-true}
+use Rattle.std.proofs.lemmas.Bool.{leb-true}
 use Rattle.std.proofs.lemmas.List.{get_or_append_left, get_or-append_right, get_or-set_same, length-set, ext_get_or}
 use Rattle.std.proofs.lemmas.List.FromFn.{get_or-map-range_with_len, length-map-range_with_len}
 use Rattle.std.proofs.Math.Nat.{pow-suc}
 use Rattle.fixed_complex.specs.declared.Cx.{Cx}
-use Rattle.fixed_complex.specs.Pairs.{IsWithin, IsOfSize, zero_pair, plus, minus, conjugate, scaled_product}
+use Rattle.fixed_complex.specs.Pairs.{zero_pair, plus, minus, conjugate, scaled_product}
 use Rattle.fixed_complex.specs.Turns.{turn_at}
 use Rattle.butterfly64.specs.declared.lanes.Eight.{Eight}
 use Rattle.butterfly64.specs.declared.lane_turns.TheConstants.{TURNS}

@@ -1,6 +1,6 @@
 -- Sizes of pairs: of sums, differences, products, and of what is rounded.
-use Rattle.std.proofs.Common.{◌≡◌, ℕ, ◌+◌, ◌*◌, ◌/◌, ◌^◌, ◌<◌, ◌≤◌, ap, arith}
-use Rattle.std.specs.Prelude.{ℤ, pos, ◌+ℤ◌, ◌-ℤ◌, ◌*ℤ◌, ◌≤ℤ◌, neg_ℤ, unsigned_abs}
+use Rattle.std.proofs.Common.{ℕ, ◌+◌, ◌*◌, ◌/◌, ◌≤◌, arith}
+use Rattle.std.specs.Prelude.{pos, ◌-ℤ◌, ◌*ℤ◌}
 use Rattle.std.proofs.lemmas.Int.{ints}
 use Rattle.fixed_complex.specs.declared.Cx.{Cx}
 use Rattle.fixed_complex.specs.Pairs.{IsWithin, IsOfSize, plus, minus, conjugate, times, scaled_product}

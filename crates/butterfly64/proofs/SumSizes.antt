@@ -1,13 +1,11 @@
 -- The sizes of the staged sums of a list.
-use Rattle.std.proofs.Common.{◌≡◌, ℕ, ◌+◌, ◌-◌, ◌*◌, ◌^◌, ◌<◌, ◌≤◌, List, length, ap, sym, ◌∙◌, arith, inl, inr, map}
-use Rattle.std.specs.Prelude.{ℤ, pos}
+use Rattle.std.proofs.Common.{◌≡◌, ℕ, ◌+◌, ◌-◌, ◌*◌, ◌^◌, ◌<◌, ◌≤◌, List, length, sym, ◌∙◌, arith, inl, inr, map}
 use Rattle.std.specs.List.{range_with_len}
 use Rattle.std.proofs.lemmas.Bool.{cases_lt}
 use Rattle.std.proofs.lemmas.List.{get_or_past, ext_get_or}
 use Rattle.std.proofs.lemmas.List.FromFn.{get_or-map-range_with_len, length-map-range_with_len}
-use Rattle.std.proofs.lemmas.Int.{ints}
 use Rattle.fixed_complex.specs.declared.Cx.{Cx}
-use Rattle.fixed_complex.specs.Pairs.{IsWithin, IsOfSize, zero_pair}
+use Rattle.fixed_complex.specs.Pairs.{IsOfSize, zero_pair}
 use Rattle.integer_laws.proofs.Order.{pos-le}
 use Rattle.butterfly64.specs.StagedSums.{entry, up_at, down_at, up_sums, down_sums}
 use Rattle.butterfly64.specs.Bounds.{AreWithin, AreOfSize}

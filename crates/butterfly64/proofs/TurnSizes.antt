@@ -1,15 +1,14 @@
 -- The sizes of turns.
-use Rattle.std.proofs.Common.{◌≡◌, ℕ, zero, suc, ◌+◌, ◌*◌, ◌%◌, ◌^◌, ◌≤◌, Bool, true, ◌&&◌, refl, ap, arith, leb, T, subst, sym}
+use Rattle.std.proofs.Common.{◌≡◌, ℕ, ◌+◌, ◌*◌, ◌%◌, ◌^◌, true, refl, arith, leb}
 use Rattle.std.specs.Prelude.{ℤ, pos, ◌+ℤ◌, ◌*ℤ◌, ◌≤ℤ◌, unsigned_abs, int_le}
 use Rattle.std.proofs.lemmas.Bool.{leb-true}
 use Rattle.std.proofs.lemmas.Int.{ints}
-use Rattle.fixed_complex.specs.declared.Cx.{Cx}
 use Rattle.fixed_complex.specs.Pairs.{IsWithin, IsOfSize}
-use Rattle.fixed_complex.specs.Turns.{turn_at, cosine_at}
+use Rattle.fixed_complex.specs.Turns.{turn_at}
 use Rattle.butterfly64.proofs.ByPlace.{passes_at}
 
 -- a turn is one of 64
-same_turn : (m : ℕ) → turn_at m ≡ turn_at (m % 64)
+pub same_turn : (m : ℕ) → turn_at m ≡ turn_at (m % 64)
 unfolding turn_at
 same_turn m =
     let first : m % 64 ≡ m % 64 % 64 = omega arith in

@@ -1,5 +1,7 @@
+pub mod Samples
 pub mod StagedSums
 pub mod PlainSums
 pub mod MirrorOrder
 pub mod Bounds
+pub mod Budgets
 pub mod Lanes

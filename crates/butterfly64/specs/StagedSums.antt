@@ -13,7 +13,8 @@ entry xs n = slice_index_or xs n zero_pair
 abbrev pub stage_turn : ℕ → ℕ → Cx
 stage_turn k j = turn_at (2 ^ (5 - k) * j)
 
--- place n of the list that joins 2^k sums of the even and 2^k sums of the odd places: E[j] + t in its first half and E[j] - t in its second, where t is the odd sum, turned
+-- place n of the list that joins 2^k sums of the even and 2^k sums of the odd places: E[j] + t in its first half
+-- and E[j] - t in its second, where t is the odd sum, turned
 abbrev pub joined : ℕ → (ℕ → Cx) → (ℕ → Cx) → ℕ → Cx
 joined k even odd n =
     let j = n % 2 ^ k in

@@ -1,8 +1,7 @@
 // Eight numbers in lanes, and eight pairs.
-ghost use Rattle.std.specs.Prelude.{◌≡◌, ℕ, ◌+◌, ◌-◌, ◌*◌, ◌/◌, ◌%◌, ◌^◌, ◌<◌, ◌≤◌, length, pos, ◌+ℤ◌, ◌-ℤ◌, ◌*ℤ◌, slice_index_or, unsigned_abs, if◌then◌else◌};
-ghost use Rattle.fixed_complex.specs.Pairs.{IsWithin, IsOfSize, conjugate, plus, minus, scaled_product};
+ghost use Rattle.std.specs.Prelude.{◌≡◌, ℕ, ◌+◌, ◌-◌, ◌^◌, ◌<◌, ◌+ℤ◌, ◌-ℤ◌, ◌*ℤ◌, if◌then◌else◌};
+ghost use Rattle.fixed_complex.specs.Pairs.{conjugate, plus, minus, scaled_product};
 ghost use Rattle.fixed_complex.specs.Rounding.{half_up};
-ghost use Rattle.fixed_complex.specs.Turns.{turn_at};
 ghost use Rattle.butterfly64.specs.Lanes.{is_low, lane, low_place, number, EachWithin, LanesWithin};
 
 use std::simd::prelude::*;

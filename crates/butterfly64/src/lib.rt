@@ -1,8 +1,8 @@
 //! The transform of 64 pairs, up and down, in staged whole numbers (own). No call takes memory.
 #![tactic(auto)]
 
-ghost use Rattle.std.specs.Prelude.{◌≡◌, ℕ, ◌+◌, ◌-◌, ◌*◌, ◌/◌, ◌^◌, ◌<◌, ◌≤◌, length};
-ghost use Rattle.fixed_complex.specs.Pairs.{IsWithin, IsOfSize, conjugate, plus, minus, scaled_product};
+ghost use Rattle.std.specs.Prelude.{◌≡◌, ℕ, ◌+◌, ◌-◌, ◌*◌, ◌^◌, ◌<◌, ◌≤◌, length};
+ghost use Rattle.fixed_complex.specs.Pairs.{IsOfSize, conjugate, plus, minus, scaled_product};
 ghost use Rattle.fixed_complex.specs.Turns.{turn_at};
 ghost use Rattle.butterfly64.specs.StagedSums.{entry, up_at, down_at, up_sums, down_sums};
 ghost use Rattle.butterfly64.specs.Bounds.{AreWithin, AreOfSize};
@@ -11,6 +11,7 @@ ghost use Rattle.butterfly64.specs.MirrorOrder.{mirror_of};
 mod eights;
 mod lane_turns;
 mod lanes;
+pub mod laws;
 mod many_eights;
 
 use crate::many_eights::{down_eights, eights, pairs, up_eights};

@@ -1,5 +1,5 @@
 // The transform in lanes beside the one without, and beside sums that were computed elsewhere.
-ghost use Rattle.std.specs.Prelude.{ℕ, ◌^◌, ◌<◌, ◌≤◌, unsigned_abs};
+ghost use Rattle.std.specs.Prelude.{◌^◌, ◌<◌, ◌≤◌, unsigned_abs};
 ghost use Rattle.butterfly64.specs.Bounds.{AreWithin};
 
 use super::*;

@@ -1,7 +1,6 @@
-use Rattle.std.proofs.Common.{◌≡◌, ℕ, zero, suc, ◌+◌, ◌-◌, ◌*◌, ◌/◌, ◌^◌, ◌<◌, ◌≤◌, List, ◌++◌, length, ap, sym, ◌∙◌, arith, subst}
+use Rattle.std.proofs.Common.{◌≡◌, suc, ◌-◌, ◌/◌, ◌^◌, length, arith}
 use Rattle.std.proofs.lemmas.Nat.{pow_pos}
-use Rattle.butterfly64.specs.Bounds.{AreOfSize}
-use Rattle.butterfly64.proofs.InPlace.{IsDown, IsPart, down_of_halves, sums_sizes, differences_sizes, down_of_one, sizes-first, sizes-last, sizes_wider, step_of_level, parted_within, next_bound, bound_above, half_length, half_of}
+use Rattle.butterfly64.proofs.InPlace.{IsPart, down_of_halves, sums_sizes, differences_sizes, down_of_one, sizes-first, sizes-last, sizes_wider, step_of_level, parted_within, next_bound, bound_above, half_length, half_of}
 use Rattle.butterfly64.proofs.+down_in_place.Goals as goal
 
 pub nonzero_div-half-then-level-gt0 : goal.nonzero_div-half-then-level-gt0

@@ -1,11 +1,6 @@
-use Rattle.std.proofs.Common.{◌≡◌, ℕ, zero, suc, ◌+◌, ◌-◌, ◌*◌, ◌/◌, ◌^◌, ◌<◌, ◌≤◌, List, ◌++◌, length, ap, sym, ◌∙◌, arith, subst}
+use Rattle.std.proofs.Common.{◌≡◌, suc, ◌-◌, ◌/◌, ◌^◌, length, arith}
 use Rattle.std.proofs.lemmas.Nat.{pow_pos}
-use Rattle.fixed_complex.specs.declared.Cx.{Cx}
-use Rattle.fixed_complex.specs.Pairs.{plus, minus, scaled_product}
-use Rattle.fixed_complex.specs.Turns.{turn_at}
-use Rattle.butterfly64.specs.StagedSums.{entry, stage_turn, up_at}
-use Rattle.butterfly64.specs.Bounds.{AreOfSize}
-use Rattle.butterfly64.proofs.InPlace.{IsUp, IsJoin, mirrored, up_of_halves, up_sizes, up_of_one, sizes-first, sizes-last, step_of_level, half_length, half_of}
+use Rattle.butterfly64.proofs.InPlace.{IsJoin, up_of_halves, up_sizes, up_of_one, sizes-first, sizes-last, step_of_level, half_length, half_of}
 use Rattle.butterfly64.proofs.+up_in_place.Goals as goal
 
 pub up_in_place-requires-then-level-gt0 : goal.up_in_place-requires-then-level-gt0

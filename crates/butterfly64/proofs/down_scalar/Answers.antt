@@ -1,6 +1,6 @@
-use Rattle.std.proofs.Common.{◌≡◌, ℕ, ◌+◌, ◌*◌, ◌^◌, ◌≤◌, rules}
+use Rattle.std.proofs.Common.{rules}
 use Rattle.butterfly64.proofs.SumSizes.{of_size-within, size-down_sums, within-down_sums}
-use Rattle.butterfly64.proofs.InPlace.{mirrored_sizes, down_of_mirrored}
+use Rattle.butterfly64.proofs.InPlace.{down_of_mirrored}
 use Rattle.butterfly64.proofs.down_scalar.Goals as goal
 
 pub down_in_place-requires-clause-sizes : goal.down_in_place-requires-clause-sizes

@@ -1,4 +1,4 @@
-use Rattle.std.proofs.Common.{◌≡◌, ℕ, ◌<◌, ◌≢◌, length, arith, get_or-set_other, get_or-set_same, below_more, length-set, ◌∙◌}
+use Rattle.std.proofs.Common.{◌<◌, ◌≢◌, length, arith, get_or-set_other, get_or-set_same, below_more, length-set, ◌∙◌}
 use Rattle.butterfly64.proofs.in_mirror_order.Goals as goal
 
 pub loop-n-preserved : goal.loop-n-preserved

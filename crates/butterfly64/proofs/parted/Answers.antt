@@ -1,7 +1,4 @@
-use Rattle.std.proofs.Common.{ℕ, ◌^◌, ◌≤◌, arith}
-use Rattle.fixed_complex.specs.declared.Cx.{Cx}
-use Rattle.fixed_complex.specs.Pairs.{IsWithin, IsOfSize, minus, conjugate}
-use Rattle.fixed_complex.specs.Turns.{turn_at}
+use Rattle.std.proofs.Common.{◌^◌, arith}
 use Rattle.butterfly64.proofs.Sizes.{wider, within_wider, within-size, within-conjugate, size-minus}
 use Rattle.butterfly64.proofs.TurnSizes.{turn-within}
 use Rattle.butterfly64.proofs.parted.Goals as goal

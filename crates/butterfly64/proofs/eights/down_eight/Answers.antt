@@ -1,4 +1,4 @@
-use Rattle.std.proofs.Common.{◌*◌, ◌^◌, ◌≤◌, arith}
+use Rattle.std.proofs.Common.{◌*◌, ◌^◌, arith}
 use Rattle.butterfly64.specs.Lanes.{lane}
 use Rattle.butterfly64.proofs.EightLanes.{down_of_stages, each_wider, after_part}
 use Rattle.butterfly64.proofs.eights.down_eight.Goals as goal

@@ -1,4 +1,4 @@
-use Rattle.std.proofs.Common.{◌*◌, ◌^◌, ◌≤◌, arith}
+use Rattle.std.proofs.Common.{◌*◌, ◌^◌, arith}
 use Rattle.butterfly64.specs.Lanes.{lane}
 use Rattle.butterfly64.proofs.EightLanes.{up_of_stages, each_wider, after_join}
 use Rattle.butterfly64.proofs.eights.up_eight.Goals as goal

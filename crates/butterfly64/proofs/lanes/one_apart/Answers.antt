@@ -1,4 +1,4 @@
-use Rattle.std.proofs.Common.{ℕ, ◌+◌, [], ◌∷◌, refl, rules}
+use Rattle.std.proofs.Common.{◌+◌, [], ◌∷◌, refl, rules}
 use Rattle.butterfly64.specs.Lanes.{low_place}
 use Rattle.butterfly64.proofs.LaneOps.{picked_of_one}
 use Rattle.butterfly64.proofs.lanes.one_apart.Goals as goal

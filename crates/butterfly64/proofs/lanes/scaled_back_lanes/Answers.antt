@@ -1,4 +1,4 @@
-use Rattle.std.proofs.Common.{◌^◌, ◌-◌, ◌≤◌, ◌+◌, arith, unsigned_abs}
+use Rattle.std.proofs.Common.{◌^◌, ◌-◌, arith}
 use Rattle.integer_laws.proofs.Order.{unsigned_abs-difference, unsigned_abs-sum}
 use Rattle.butterfly64.specs.Lanes.{number, lane}
 use Rattle.butterfly64.proofs.LaneOps.{lanes_wider, scaled_back_of_parts}

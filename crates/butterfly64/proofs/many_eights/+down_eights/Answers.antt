@@ -1,7 +1,7 @@
-use Rattle.std.proofs.Common.{◌≡◌, ℕ, suc, ◌+◌, ◌-◌, ◌*◌, ◌/◌, ◌^◌, ◌<◌, ◌≤◌, length, arith}
+use Rattle.std.proofs.Common.{◌≡◌, suc, ◌+◌, ◌-◌, ◌*◌, ◌^◌, ◌<◌, length, arith}
 use Rattle.std.proofs.lemmas.Nat.{pow_pos}
-use Rattle.butterfly64.specs.Lanes.{eight_in, pairs_of}
-use Rattle.butterfly64.proofs.InPlace.{IsDown, IsPart, down_of_halves, sums_sizes, differences_sizes, sizes-first, sizes-last, sizes_wider, half_length, half_of}
+use Rattle.butterfly64.specs.Lanes.{pairs_of}
+use Rattle.butterfly64.proofs.InPlace.{down_of_halves, sums_sizes, differences_sizes, sizes-first, sizes-last, sizes_wider, half_length, half_of}
 use Rattle.butterfly64.proofs.PairsOfEights.{pairs_of-append, long_pairs, lanes_of_size, part_of_eights, down_of_one_eight, most_of_level, parts_within, next_level, parts_above}
 use Rattle.butterfly64.proofs.many_eights.+down_eights.Goals as goal
 

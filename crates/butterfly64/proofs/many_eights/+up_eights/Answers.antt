@@ -1,7 +1,7 @@
-use Rattle.std.proofs.Common.{◌≡◌, ℕ, suc, ◌+◌, ◌-◌, ◌*◌, ◌/◌, ◌^◌, ◌<◌, ◌≤◌, length, arith}
+use Rattle.std.proofs.Common.{◌≡◌, suc, ◌+◌, ◌-◌, ◌^◌, ◌<◌, length, arith}
 use Rattle.std.proofs.lemmas.Nat.{pow_pos}
-use Rattle.butterfly64.specs.Lanes.{eight_in, pairs_of}
-use Rattle.butterfly64.proofs.InPlace.{IsUp, IsJoin, up_of_halves, up_sizes, sizes-first, sizes-last, half_length, half_of}
+use Rattle.butterfly64.specs.Lanes.{pairs_of}
+use Rattle.butterfly64.proofs.InPlace.{up_of_halves, up_sizes, sizes-first, sizes-last, half_length, half_of}
 use Rattle.butterfly64.proofs.PairsOfEights.{pairs_of-append, long_pairs, lanes_of_size, join_of_eights, up_of_one_eight, most_of_level}
 use Rattle.butterfly64.proofs.many_eights.+up_eights.Goals as goal
 

@@ -1,4 +1,4 @@
-use Rattle.std.proofs.Common.{◌^◌, ◌<◌, ◌≤◌, length, arith}
+use Rattle.std.proofs.Common.{◌^◌, arith}
 use Rattle.butterfly64.proofs.PairsOfEights.{lanes_within}
 use Rattle.butterfly64.proofs.many_eights.part_eights.Goals as goal
 

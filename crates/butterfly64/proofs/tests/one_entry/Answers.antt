@@ -1,4 +1,4 @@
-use Rattle.std.proofs.Common.{◌^◌, ◌≤◌, arith}
+use Rattle.std.proofs.Common.{◌^◌, arith}
 use Rattle.butterfly64.proofs.Inputs.{within-set, within-zeros}
 use Rattle.butterfly64.proofs.tests.one_entry.Goals as goal
 

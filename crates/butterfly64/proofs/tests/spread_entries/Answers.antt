@@ -1,4 +1,4 @@
-use Rattle.std.proofs.Common.{◌^◌, ◌≤◌, arith, unsigned_abs, rules}
+use Rattle.std.proofs.Common.{◌^◌, arith}
 use Rattle.std.proofs.lemmas.Int.{to_z-of_z}
 use Rattle.butterfly64.proofs.Inputs.{within-set, within-zeros}
 use Rattle.butterfly64.proofs.tests.spread_entries.Goals as goal
