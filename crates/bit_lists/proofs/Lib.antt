@@ -1,2 +1,3 @@
 mod EightBits
 mod Characters
+pub mod Texts

@@ -7,6 +7,8 @@ ghost use Rattle.bit_lists.specs.Text.{IsBadPlace, IsCharacter, IsTextOf, text_o
 ghost use Rattle.bit_lists.specs.declared.TextFault.TheVariants.{NoMemory};
 ghost use Rattle.lane_kernels.specs.Kernels.{differences_of};
 
+pub mod laws;
+
 use lane_kernels::differences;
 use std::alloc::{AllocError, Global};
 use std::marker::Model;

@@ -1,0 +1,14 @@
+//! What holds of texts of bits. Its functions do nothing: what each ensures is the law.
+
+ghost use Rattle.std.specs.Prelude.{◌≡◌, ◌⊎◌, ℕ, List};
+ghost use Rattle.bit_lists.specs.Bits.{AreBits};
+ghost use Rattle.bit_lists.specs.Text.{IsBadPlace, IsTextOf};
+
+/// A text has bits or a bad place, one of the two, and only one list of bits or one bad place (own).
+pub fn bits_or_a_bad_place()
+    ensures some { (text : List ℕ) → ((bits : List ℕ) × (AreBits bits × IsTextOf text bits))
+        ⊎ ((at : ℕ) × IsBadPlace text at) }
+    ensures one_text { (text a b : List ℕ) → IsTextOf text a → IsTextOf text b → a ≡ b }
+    ensures one_place { (text : List ℕ) (a b : ℕ) → IsBadPlace text a → IsBadPlace text b → a ≡ b }
+    ensures apart { (text bits : List ℕ) (at : ℕ) → AreBits bits → IsTextOf text bits → IsBadPlace text at → ⊥ }
+{}
