@@ -27,7 +27,8 @@ pub fn dot(a: &[Sample], b: &[Sample]) -> Cx
     dot
 }
 
-/// The sum of the squares of the samples' sizes, `i*i + q*q` (own). One is at most 2^31, so the sum of 2^24 of them fits.
+/// The sum of the squares of the samples' sizes, `i*i + q*q` (own). One is at most 2^31, so the sum of 2^24 of them
+/// fits.
 pub fn energy(a: &[Sample]) -> i64
     requires { length a.now ≤ 2 ^ 24 }
     ensures { result ≡ energy_of a.now }
@@ -155,9 +156,16 @@ fn add_lanes(x: [i16; 8], y: [i16; 8]) -> [i16; 8]
     requires y { AreOf16Bits y }
     ensures { result ≡ eight (λ n. held (number_at x n +ℤ number_at y n)) }
 {
-    let (x, y) = (i16x8::from_array(x).cast::<i32>(), i16x8::from_array(y).cast::<i32>());
+    let (x, y) = (
+        i16x8::from_array(x).cast::<i32>(),
+        i16x8::from_array(y).cast::<i32>(),
+    );
     let (least, most) = (i32x8::splat(-32768), i32x8::splat(32767));
-    x.strict_add(y).simd_min(most).simd_max(least).cast::<i16>().to_array()
+    x.strict_add(y)
+        .simd_min(most)
+        .simd_max(least)
+        .cast::<i16>()
+        .to_array()
 }
 
 // Whether a sample is loud.
@@ -336,7 +344,9 @@ fn i_components(a: &[Sample]) -> [i16; 8]
     ensures value { result ≡ eight (λ n. (sample_at a.now n).i) }
     ensures of_16_bits { AreOf16Bits result }
 {
-    [a[0].i, a[1].i, a[2].i, a[3].i, a[4].i, a[5].i, a[6].i, a[7].i]
+    [
+        a[0].i, a[1].i, a[2].i, a[3].i, a[4].i, a[5].i, a[6].i, a[7].i,
+    ]
 }
 
 // The Q components of eight samples.
@@ -345,7 +355,9 @@ fn q_components(a: &[Sample]) -> [i16; 8]
     ensures value { result ≡ eight (λ n. (sample_at a.now n).q) }
     ensures of_16_bits { AreOf16Bits result }
 {
-    [a[0].q, a[1].q, a[2].q, a[3].q, a[4].q, a[5].q, a[6].q, a[7].q]
+    [
+        a[0].q, a[1].q, a[2].q, a[3].q, a[4].q, a[5].q, a[6].q, a[7].q,
+    ]
 }
 
 // Eight numbers, wider.
