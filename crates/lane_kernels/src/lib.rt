@@ -96,6 +96,7 @@ fn quiet_chunks(a: &[Sample]) -> usize
 }
 
 // Whether one of eight samples is loud.
+#[inline(always)]
 fn any_loud(a: &[Sample]) -> bool
     requires { length a.now ≡ 8 }
     ensures { result ≡ false → (n : ℕ) → n < 8 → is_loud (sample_at a.now n) ≡ false }
@@ -104,6 +105,7 @@ fn any_loud(a: &[Sample]) -> bool
 }
 
 // Whether one of eight numbers is larger than 256 in size.
+#[inline(always)]
 fn any_large(x: [i16; 8]) -> bool
     requires { AreOf16Bits x }
     ensures { result ≡ false → (n : ℕ) → nat_lt 256 (unsigned_abs (number_at x n)) ≡ false }
@@ -137,6 +139,7 @@ fn held_sum(a: Sample, b: Sample) -> Sample
 }
 
 // Adds eight samples from a place on.
+#[inline(always)]
 fn add_eight(a: &mut [Sample], b: &[Sample], at: usize)
     requires within { at + 8 ≤ length a.old }
     requires long { length a.old ≡ length b.now }
@@ -151,6 +154,7 @@ fn add_eight(a: &mut [Sample], b: &[Sample], at: usize)
 }
 
 // The sums of eight numbers, each held within 16 bits.
+#[inline(always)]
 fn add_lanes(x: [i16; 8], y: [i16; 8]) -> [i16; 8]
     requires x { AreOf16Bits x }
     requires y { AreOf16Bits y }
@@ -191,6 +195,7 @@ fn lane_differences(a: &[u8], b: &[u8]) -> usize
 }
 
 // How many of sixteen places differ.
+#[inline(always)]
 fn differing(a: &[u8], b: &[u8]) -> u32
     requires a { length a.now ≡ 16 }
     requires b { length b.now ≡ 16 }
@@ -283,6 +288,7 @@ fn total(sums: &[i64; 8]) -> i64
 }
 
 // Eight sums, each with the real part of a product more.
+#[inline(always)]
 fn add_real_parts(sums: [i64; 8], a: &[Sample], b: &[Sample]) -> [i64; 8]
     requires sums { AreWithin (2 ^ 61) sums }
     requires a { length a.now ≡ 8 }
@@ -296,6 +302,7 @@ fn add_real_parts(sums: [i64; 8], a: &[Sample], b: &[Sample]) -> [i64; 8]
 }
 
 // Eight sums, each with the imaginary part of a product more.
+#[inline(always)]
 fn add_imaginary_parts(sums: [i64; 8], a: &[Sample], b: &[Sample]) -> [i64; 8]
     requires sums { AreWithin (2 ^ 61) sums }
     requires a { length a.now ≡ 8 }
@@ -309,6 +316,7 @@ fn add_imaginary_parts(sums: [i64; 8], a: &[Sample], b: &[Sample]) -> [i64; 8]
 }
 
 // Eight sums, each with the square of a sample's size more.
+#[inline(always)]
 fn add_powers(sums: [i64; 8], a: &[Sample]) -> [i64; 8]
     requires sums { AreWithin (2 ^ 61) sums }
     requires a { length a.now ≡ 8 }
@@ -321,6 +329,7 @@ fn add_powers(sums: [i64; 8], a: &[Sample]) -> [i64; 8]
 }
 
 // The I components of eight samples, as wide as sums of products need.
+#[inline(always)]
 fn in_phase(a: &[Sample]) -> [i64; 8]
     requires { length a.now ≡ 8 }
     ensures value { result ≡ eight (λ n. (sample_at a.now n).i) }
@@ -330,6 +339,7 @@ fn in_phase(a: &[Sample]) -> [i64; 8]
 }
 
 // The Q components of eight samples, as wide as sums of products need.
+#[inline(always)]
 fn quadrature(a: &[Sample]) -> [i64; 8]
     requires { length a.now ≡ 8 }
     ensures value { result ≡ eight (λ n. (sample_at a.now n).q) }
@@ -339,6 +349,7 @@ fn quadrature(a: &[Sample]) -> [i64; 8]
 }
 
 // The I components of eight samples.
+#[inline(always)]
 fn i_components(a: &[Sample]) -> [i16; 8]
     requires { length a.now ≡ 8 }
     ensures value { result ≡ eight (λ n. (sample_at a.now n).i) }
@@ -350,6 +361,7 @@ fn i_components(a: &[Sample]) -> [i16; 8]
 }
 
 // The Q components of eight samples.
+#[inline(always)]
 fn q_components(a: &[Sample]) -> [i16; 8]
     requires { length a.now ≡ 8 }
     ensures value { result ≡ eight (λ n. (sample_at a.now n).q) }
@@ -361,6 +373,7 @@ fn q_components(a: &[Sample]) -> [i16; 8]
 }
 
 // Eight numbers, wider.
+#[inline(always)]
 fn widened(x: [i16; 8]) -> [i64; 8]
     requires { AreOf16Bits x }
     ensures value { result ≡ x }
@@ -370,6 +383,7 @@ fn widened(x: [i16; 8]) -> [i64; 8]
 }
 
 // Eight sums, each with a product more.
+#[inline(always)]
 fn add_products(sums: [i64; 8], x: [i64; 8], y: [i64; 8]) -> [i64; 8]
     requires sums { AreWithin (2 ^ 62) sums }
     requires x { AreWithin (2 ^ 15) x }
@@ -381,6 +395,7 @@ fn add_products(sums: [i64; 8], x: [i64; 8], y: [i64; 8]) -> [i64; 8]
 }
 
 // Eight sums, each with a product less.
+#[inline(always)]
 fn subtract_products(sums: [i64; 8], x: [i64; 8], y: [i64; 8]) -> [i64; 8]
     requires sums { AreWithin (2 ^ 62) sums }
     requires x { AreWithin (2 ^ 15) x }
