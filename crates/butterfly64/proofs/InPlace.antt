@@ -56,16 +56,19 @@ pub record IsJoin (k : ℕ) (es os first last : List Cx) : Type 0 where
 
 pub up_of_halves : (k : ℕ) (xs ys es os first last : List Cx) → length xs ≡ 2 ^ k → length first ≡ 2 ^ k → IsUp k xs es → IsUp k ys os → IsJoin k es os first last → IsUp (suc k) (xs ++ ys) (first ++ last)
 unfolding up_at
-up_of_halves k xs ys es os first last long first_long left right join = record { each = λ n lt.
-    let even = mirrored-even k xs ys long in
-    let odd = mirrored-odd k xs ys long in
-    rw (even, odd) (elim (cases_lt n (2 ^ k)) [
-      inl here ↦ entry-first first last n (omega arith) ∙ join.sums n here ∙ rw (left.each n here, right.each n here) (sym (joined-first k (up_at k (mirrored k xs)) (up_at k (mirrored k ys)) n here))
-      | inr there ↦
-        let j = n - 2 ^ k in
-        let place : 2 ^ k + j ≡ n = omega arith in
-        let below : j < 2 ^ k = omega (arith, pow-suc 2 k) in
-        rw (← place) (entry-last first last (2 ^ k) j first_long ∙ join.differences j below ∙ rw (left.each j below, right.each j below) (sym (joined-last k (up_at k (mirrored k xs)) (up_at k (mirrored k ys)) j below))) ]) }
+up_of_halves k xs ys es os first last long first_long left right join = record {
+  each = λ n lt.
+      let even = mirrored-even k xs ys long in
+      let odd = mirrored-odd k xs ys long in
+      rw (even, odd) (elim (cases_lt n (2 ^ k)) [
+        | inl here ↦ entry-first first last n (omega arith) ∙ join.sums n here ∙ rw (left.each n here, right.each n here) (sym (joined-first k (up_at k (mirrored k xs)) (up_at k (mirrored k ys)) n here))
+        | inr there ↦
+            let j = n - 2 ^ k in
+            let place : 2 ^ k + j ≡ n = omega arith in
+            let below : j < 2 ^ k = omega (arith, pow-suc 2 k) in
+            rw (← place) (entry-last first last (2 ^ k) j first_long ∙ join.differences j below ∙ rw (left.each j below, right.each j below) (sym (joined-last k (up_at k (mirrored k xs)) (up_at k (mirrored k ys)) j below)))
+      ]);
+}
 
 -- what a part into two halves does
 pub record IsPart (k : ℕ) (xs ys first last : List Cx) : Type 0 where
@@ -73,23 +76,26 @@ pub record IsPart (k : ℕ) (xs ys first last : List Cx) : Type 0 where
   pub differences : (j : ℕ) → j < 2 ^ k → entry last j ≡ scaled_product (conjugate (stage_turn k j)) (minus (entry xs j) (entry ys j))
 
 pub down_of_halves : (k : ℕ) (xs ys first last ss ds : List Cx) → length xs ≡ 2 ^ k → length ss ≡ 2 ^ k → IsPart k xs ys first last → IsDown k first ss → IsDown k last ds → IsDown (suc k) (xs ++ ys) (ss ++ ds)
-down_of_halves k xs ys first last ss ds long ss_long part left right = record { each = λ n lt.
-    let whole = entry (xs ++ ys) in
-    let here : (m : ℕ) → m < 2 ^ k → whole m ≡ entry xs m = λ m below. entry-first xs ys m (omega arith) in
-    let there : (m : ℕ) → whole (m + 2 ^ k) ≡ entry ys m = λ m. ap whole (let e : m + 2 ^ k ≡ 2 ^ k + m = omega arith in e) ∙ entry-last xs ys (2 ^ k) m long in
-    let j = n / 2 in
-    let below : j < 2 ^ k = omega (arith, pow-suc 2 k) in
-    elim (cases_eq (n % 2) 0) [
-      inl even ↦
-        let place : n ≡ 2 * j = omega arith in
-        rw (place, mirror_of-even k j, down_at-even k whole j)
-          (entry-first ss ds (mirror_of k j) (omega (arith, mirror_of-below k j)) ∙ left.each j below
-          ∙ down_at-local k (entry first) (half_sums k whole) (λ m lt. part.sums m lt ∙ sym (rw (here m lt, there m) refl)) j)
-      | inr odd ↦
-        let place : n ≡ 2 * j + 1 = omega arith in
-        rw (place, mirror_of-odd k j, down_at-odd k whole j)
-          (entry-last ss ds (2 ^ k) (mirror_of k j) ss_long ∙ right.each j below
-          ∙ down_at-local k (entry last) (turned_differences k whole) (λ m lt. part.differences m lt ∙ sym (rw (here m lt, there m) refl)) j) ] }
+down_of_halves k xs ys first last ss ds long ss_long part left right = record {
+  each = λ n lt.
+      let whole = entry (xs ++ ys) in
+      let here : (m : ℕ) → m < 2 ^ k → whole m ≡ entry xs m = λ m below. entry-first xs ys m (omega arith) in
+      let there : (m : ℕ) → whole (m + 2 ^ k) ≡ entry ys m = λ m. ap whole (let e : m + 2 ^ k ≡ 2 ^ k + m = omega arith in e) ∙ entry-last xs ys (2 ^ k) m long in
+      let j = n / 2 in
+      let below : j < 2 ^ k = omega (arith, pow-suc 2 k) in
+      elim (cases_eq (n % 2) 0) [
+        | inl even ↦
+            let place : n ≡ 2 * j = omega arith in
+            rw (place, mirror_of-even k j, down_at-even k whole j)
+            (entry-first ss ds (mirror_of k j) (omega (arith, mirror_of-below k j)) ∙ left.each j below
+            ∙ down_at-local k (entry first) (half_sums k whole) (λ m lt. part.sums m lt ∙ sym (rw (here m lt, there m) refl)) j)
+        | inr odd ↦
+            let place : n ≡ 2 * j + 1 = omega arith in
+            rw (place, mirror_of-odd k j, down_at-odd k whole j)
+            (entry-last ss ds (2 ^ k) (mirror_of k j) ss_long ∙ right.each j below
+            ∙ down_at-local k (entry last) (turned_differences k whole) (λ m lt. part.differences m lt ∙ sym (rw (here m lt, there m) refl)) j)
+      ];
+}
 
 -- ---- steps and bounds at each of the six levels
 -- the turns of a level stand so far apart
@@ -115,21 +121,27 @@ sizes-last s xs ys h = record { each = λ n lt. let e = entry-last xs ys (length
 
 -- a list of sums, given by place
 pub up_sizes : (k : ℕ) (xs sums : List Cx) → k < 6 → length xs ≡ 2 ^ k → length sums ≡ 2 ^ k → AreOfSize (2 ^ 31) xs → IsUp k xs sums → AreOfSize (2 ^ 39) sums
-up_sizes k xs sums h long as_long sizes up = record { each = λ n lt.
-    let below : n < 2 ^ k = omega arith in
-    rw (up.each n below) (wider _ (2 ^ 39) _ (grown_within k h)
-      (size-up_at k (2 ^ 31) (mirrored k xs) (λ m. sizes.each (mirror_of k m) (omega (arith, mirror_of-below k m))) n)) }
+up_sizes k xs sums h long as_long sizes up = record {
+  each = λ n lt.
+      let below : n < 2 ^ k = omega arith in
+      rw (up.each n below) (wider _ (2 ^ 39) _ (grown_within k h)
+      (size-up_at k (2 ^ 31) (mirrored k xs) (λ m. sizes.each (mirror_of k m) (omega (arith, mirror_of-below k m))) n));
+}
 
 -- the two lists that a part gives
 pub sums_sizes : (k s : ℕ) (xs ys first last : List Cx) → length first ≡ 2 ^ k → length xs ≡ 2 ^ k → length ys ≡ 2 ^ k → AreOfSize s xs → AreOfSize s ys → IsPart k xs ys first last → AreOfSize (s * 3) first
-sums_sizes k s xs ys first last first_long xs_long ys_long xs_sizes ys_sizes part = record { each = λ n lt.
-    rw (part.sums n (omega arith)) (wider (s + s) (s * 3) _ (omega arith) (size-plus s s (entry xs n) (entry ys n) (xs_sizes.each n (omega arith)) (ys_sizes.each n (omega arith)))) }
+sums_sizes k s xs ys first last first_long xs_long ys_long xs_sizes ys_sizes part = record {
+  each = λ n lt.
+      rw (part.sums n (omega arith)) (wider (s + s) (s * 3) _ (omega arith) (size-plus s s (entry xs n) (entry ys n) (xs_sizes.each n (omega arith)) (ys_sizes.each n (omega arith))));
+}
 
 pub differences_sizes : (k s : ℕ) (xs ys first last : List Cx) → 4 ≤ s → length last ≡ 2 ^ k → length xs ≡ 2 ^ k → length ys ≡ 2 ^ k → AreOfSize s xs → AreOfSize s ys → IsPart k xs ys first last → AreOfSize (s * 3) last
-differences_sizes k s xs ys first last above last_long xs_long ys_long xs_sizes ys_sizes part = record { each = λ n lt.
-    rw (part.differences n (omega arith)) (wider ((s + s) + (s + s) / 1048576 + 2) (s * 3) _ (omega arith)
+differences_sizes k s xs ys first last above last_long xs_long ys_long xs_sizes ys_sizes part = record {
+  each = λ n lt.
+      rw (part.differences n (omega arith)) (wider ((s + s) + (s + s) / 1048576 + 2) (s * 3) _ (omega arith)
       (size-scaled_product (s + s) (conjugate (stage_turn k n)) _ (size-conjugate _ _ (turn-size (2 ^ (5 - k) * n)))
-        (size-minus s s (entry xs n) (entry ys n) (xs_sizes.each n (omega arith)) (ys_sizes.each n (omega arith))))) }
+      (size-minus s s (entry xs n) (entry ys n) (xs_sizes.each n (omega arith)) (ys_sizes.each n (omega arith)))));
+}
 
 -- ---- lengths of halves, and lists of one pair
 pub up_of_one : (xs : List Cx) (n : ℕ) → n < 2 ^ 0 → entry xs n ≡ up_at 0 (mirrored 0 xs) n
@@ -167,8 +179,10 @@ sizes_wider a b xs h s = record { each = λ n lt. wider a b (entry xs n) h (s.ea
 -- ---- all 64 pairs
 -- in mirror order, pairs are no larger
 pub mirrored_sizes : (xs ys : List Cx) → length xs ≡ 64 → length ys ≡ 64 → ((n : ℕ) → n < 64 → entry ys n ≡ entry xs (mirror_of 6 n)) → AreOfSize (2 ^ 31) xs → AreOfSize (2 ^ 31) ys
-mirrored_sizes xs ys xs_long ys_long mirror s = record { each = λ n lt.
-    rw (mirror n (omega arith)) (s.each (mirror_of 6 n) (omega (arith, mirror_of-below 6 n))) }
+mirrored_sizes xs ys xs_long ys_long mirror s = record {
+  each = λ n lt.
+      rw (mirror n (omega arith)) (s.each (mirror_of 6 n) (omega (arith, mirror_of-below 6 n)));
+}
 
 -- the sums of what was brought into mirror order
 pub up_of_mirrored : (xs ys sums : List Cx) → length sums ≡ 64 → ((n : ℕ) → n < 64 → entry ys n ≡ entry xs (mirror_of 6 n)) → IsUp 6 ys sums → sums ≡ up_sums xs

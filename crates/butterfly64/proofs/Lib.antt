@@ -6,3 +6,7 @@ pub mod ByPlace
 pub mod Halves
 pub mod InPlace
 pub mod SumSizes
+pub mod LaneOps
+pub mod EightLanes
+pub mod PairsOfEights
+pub mod Inputs

@@ -40,11 +40,13 @@ size-scaled_product s w z p q =
     let whole = times w z in
     let part = scaled_product w z in
     let near : IsOfSize 1048576 record { re = pos 1048576 *ℤ part.re -ℤ whole.re; im = pos 1048576 *ℤ part.im -ℤ whole.im } =
-      record { size = size_of_rounding whole.re whole.im 524288 1048576 (omega arith) (omega arith) } in
+    record { size = size_of_rounding whole.re whole.im 524288 1048576 (omega arith) (omega arith) } in
     let all = size_of_near (pos 1048576 *ℤ part.re) (pos 1048576 *ℤ part.im) whole.re whole.im 1048576 (1048577 * s) near.size (size-times 1048577 s w z p q).size in
     let enough : 1048576 + 1048577 * s ≤ 1048576 * (s + s / 1048576 + 2) = omega arith in
-    record { size = size_of_unscaled 1048576 part.re part.im (s + s / 1048576 + 2) (omega arith)
-      (size_monotone (pos 1048576 *ℤ part.re) (pos 1048576 *ℤ part.im) (1048576 + 1048577 * s) (1048576 * (s + s / 1048576 + 2)) enough all) }
+    record {
+      size = size_of_unscaled 1048576 part.re part.im (s + s / 1048576 + 2) (omega arith)
+          (size_monotone (pos 1048576 *ℤ part.re) (pos 1048576 *ℤ part.im) (1048576 + 1048577 * s) (1048576 * (s + s / 1048576 + 2)) enough all);
+    }
 
 -- components within a larger bound, and those of a conjugate
 pub within_wider : (a b : ℕ) (x : Cx) → a ≤ b → IsWithin a x → IsWithin b x

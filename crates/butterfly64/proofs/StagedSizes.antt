@@ -26,8 +26,9 @@ size_joined k s even odd p q n =
     let ts : IsOfSize (s + s / 1048576 + 2) t = size-scaled_product s (stage_turn k j) (odd j) (turn-size (2 ^ (5 - k) * j)) (q j) in
     let narrow : s + (s + s / 1048576 + 2) ≤ grown s = omega arith in
     elim (nat_lt n (2 ^ k)) as (λ b. IsOfSize (grown s) (cond b (plus (even j) t) (minus (even j) t))) [
-      true ↦ wider _ _ _ narrow (size-plus s _ (even j) t (p j) ts)
-      | false ↦ wider _ _ _ narrow (size-minus s _ (even j) t (p j) ts) ]
+      | true ↦ wider _ _ _ narrow (size-plus s _ (even j) t (p j) ts)
+      | false ↦ wider _ _ _ narrow (size-minus s _ (even j) t (p j) ts)
+    ]
 
 -- up
 pub size-up_at : (k s : ℕ) (x : ℕ → Cx) → All_of_size s x → All_of_size (grown_by k s) (up_at k x)
@@ -46,8 +47,8 @@ size-turned_differences : (k s : ℕ) (x : ℕ → Cx) → All_of_size s x → A
 size-turned_differences k s x p n =
     let narrow : (s + s) + (s + s) / 1048576 + 2 ≤ grown s = omega arith in
     wider _ _ _ narrow (size-scaled_product (s + s) (conjugate (stage_turn k n)) _
-      (size-conjugate _ _ (turn-size (2 ^ (5 - k) * n)))
-      (size-minus s s (x n) (x (n + 2 ^ k)) (p n) (p (n + 2 ^ k))))
+    (size-conjugate _ _ (turn-size (2 ^ (5 - k) * n)))
+    (size-minus s s (x n) (x (n + 2 ^ k)) (p n) (p (n + 2 ^ k))))
 
 -- a join more at the front of the joins
 grown_first : (k s : ℕ) → grown_by k (grown s) ≡ grown (grown_by k s)
@@ -60,8 +61,9 @@ unfolding down_at
 size-down_at zero s x p n = p 0
 size-down_at (suc k) s x p n =
     rw (← grown_first k s) (elim (nat_eq (n % 2) 0) as (λ b. IsOfSize (grown_by k (grown s)) (cond b (down_at k (half_sums k x) (n / 2)) (down_at k (turned_differences k x) (n / 2)))) [
-      true ↦ size-down_at k (grown s) (half_sums k x) (size-half_sums k s x p) (n / 2)
-      | false ↦ size-down_at k (grown s) (turned_differences k x) (size-turned_differences k s x p) (n / 2) ])
+      | true ↦ size-down_at k (grown s) (half_sums k x) (size-half_sums k s x p) (n / 2)
+      | false ↦ size-down_at k (grown s) (turned_differences k x) (size-turned_differences k s x p) (n / 2)
+    ])
 
 -- six joins, where no pair is larger than 2^31
 pub six_joins : (s : ℕ) → s ≤ 2 ^ 31 → grown_by 6 s ≤ 65 * s + 256

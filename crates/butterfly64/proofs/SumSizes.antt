@@ -33,8 +33,9 @@ nothing_past xs n h = get_or_past xs n zero_pair h
 everywhere_of_size : (a : ℕ) (xs : List Cx) → AreOfSize a xs → (n : ℕ) → IsOfSize a (entry xs n)
 everywhere_of_size a xs s n =
     elim (cases_lt n (length xs)) [
-      inl here ↦ s.each n here
-      | inr past ↦ rw (nothing_past xs n past) (record { size = pos-le 0 (a * a) (omega arith) }) ]
+      | inl here ↦ s.each n here
+      | inr past ↦ rw (nothing_past xs n past) (record { size = pos-le 0 (a * a) (omega arith) })
+    ]
 
 -- pairs with components of at most 2^30 are at most 2^31 in size
 pub of_size-within : (xs : List Cx) → AreWithin (2 ^ 30) xs → AreOfSize (2 ^ 31) xs
@@ -42,14 +43,18 @@ of_size-within xs w = record { each = λ n lt. size-within (2 ^ 30) (entry xs n)
 
 -- the size law
 pub size-up_sums : (xs : List Cx) (a : ℕ) → a ≤ 2 ^ 31 → AreOfSize a xs → AreOfSize (65 * a + 256) (up_sums xs)
-size-up_sums xs a h s = record { each = λ n lt.
-    rw (entry-by_place (up_at 6 (entry xs)) n lt)
-      (wider (grown_by 6 a) _ _ (six_joins a h) (size-up_at 6 a (entry xs) (everywhere_of_size a xs s) n)) }
+size-up_sums xs a h s = record {
+  each = λ n lt.
+      rw (entry-by_place (up_at 6 (entry xs)) n lt)
+      (wider (grown_by 6 a) _ _ (six_joins a h) (size-up_at 6 a (entry xs) (everywhere_of_size a xs s) n));
+}
 
 pub size-down_sums : (xs : List Cx) (a : ℕ) → a ≤ 2 ^ 31 → AreOfSize a xs → AreOfSize (65 * a + 256) (down_sums xs)
-size-down_sums xs a h s = record { each = λ n lt.
-    rw (entry-by_place (down_at 6 (entry xs)) n lt)
-      (wider (grown_by 6 a) _ _ (six_joins a h) (size-down_at 6 a (entry xs) (everywhere_of_size a xs s) n)) }
+size-down_sums xs a h s = record {
+  each = λ n lt.
+      rw (entry-by_place (down_at 6 (entry xs)) n lt)
+      (wider (grown_by 6 a) _ _ (six_joins a h) (size-down_at 6 a (entry xs) (everywhere_of_size a xs s) n));
+}
 
 -- no component reaches 2^40
 components : (ys : List Cx) → AreOfSize (65 * 2 ^ 31 + 256) ys → AreWithin (2 ^ 40 - 1) ys

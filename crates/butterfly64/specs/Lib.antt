@@ -2,3 +2,4 @@ pub mod StagedSums
 pub mod PlainSums
 pub mod MirrorOrder
 pub mod Bounds
+pub mod Lanes

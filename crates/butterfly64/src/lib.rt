@@ -8,10 +8,41 @@ ghost use Rattle.butterfly64.specs.StagedSums.{entry, up_at, down_at, up_sums, d
 ghost use Rattle.butterfly64.specs.Bounds.{AreWithin, AreOfSize};
 ghost use Rattle.butterfly64.specs.MirrorOrder.{mirror_of};
 
-use fixed_complex::{add, conj, scaled, sub, turn, Cx};
+mod eights;
+mod lane_turns;
+mod lanes;
+mod many_eights;
+
+use crate::many_eights::{down_eights, eights, pairs, up_eights};
+use fixed_complex::{Cx, add, conj, scaled, sub, turn};
 
 /// The staged sums `up` of 64 pairs whose components are at most 2^30 in size: at place n about the sum over c of
-/// x(c) * T[c*n] / 2^20, rounded at each of six joins (own). Takes no memory.
+/// x(c) * T[c*n] / 2^20, rounded at each of six joins (own). Works in lanes. Takes no memory.
+pub fn up(x: &[Cx; 64]) -> [Cx; 64]
+    requires { AreWithin (2 ^ 30) x.now }
+    ensures sums { result ≡ up_sums x.now }
+    ensures sizes { (a : ℕ) → a ≤ 2 ^ 31 → AreOfSize a x.now → AreOfSize (65 * a + 256) result }
+    ensures within { AreWithin (2 ^ 40 - 1) result }
+{
+    let mut sums = eights(&in_mirror_order(x));
+    up_eights(&mut sums, 3);
+    pairs(&sums)
+}
+
+/// The staged sums `down` of 64 pairs whose components are at most 2^30 in size: at place c about the sum over n of
+/// x(n) * conj T[c*n] / 2^20, rounded at each of six joins (own). Works in lanes. Takes no memory.
+pub fn down(x: &[Cx; 64]) -> [Cx; 64]
+    requires { AreWithin (2 ^ 30) x.now }
+    ensures sums { result ≡ down_sums x.now }
+    ensures sizes { (a : ℕ) → a ≤ 2 ^ 31 → AreOfSize a x.now → AreOfSize (65 * a + 256) result }
+    ensures within { AreWithin (2 ^ 40 - 1) result }
+{
+    let mut sums = eights(x);
+    down_eights(&mut sums, 3);
+    in_mirror_order(&pairs(&sums))
+}
+
+/// The same as `up`, pair by pair without lanes. Takes no memory.
 pub fn up_scalar(x: &[Cx; 64]) -> [Cx; 64]
     requires { AreWithin (2 ^ 30) x.now }
     ensures sums { result ≡ up_sums x.now }
@@ -23,8 +54,7 @@ pub fn up_scalar(x: &[Cx; 64]) -> [Cx; 64]
     sums
 }
 
-/// The staged sums `down` of 64 pairs whose components are at most 2^30 in size: at place c about the sum over n of
-/// x(n) * conj T[c*n] / 2^20, rounded at each of six joins (own). Takes no memory.
+/// The same as `down`, pair by pair without lanes. Takes no memory.
 pub fn down_scalar(x: &[Cx; 64]) -> [Cx; 64]
     requires { AreWithin (2 ^ 30) x.now }
     ensures sums { result ≡ down_sums x.now }
@@ -144,3 +174,6 @@ fn parted(first: Cx, last: Cx, m: usize) -> (Cx, Cx)
 {
     (add(first, last), scaled(conj(turn(m)), sub(first, last)))
 }
+
+#[cfg(test)]
+mod tests;

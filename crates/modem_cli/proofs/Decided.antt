@@ -8,7 +8,7 @@ use Rattle.rate_table.specs.declared.Rate.{Rate}
 use Rattle.rate_table.specs.declared.Rate.TheVariants.{R6, R9, R12, R18, R24, R36, R48, R54}
 use Rattle.rate_table.specs.Table.{rate_at}
 use Rattle.modem_cli.specs.declared.words.Stage.{Stage}
-use Rattle.modem_cli.specs.declared.words.Stage.TheVariants.{Scrambled, Coded, Kept, Interleaved}
+use Rattle.modem_cli.specs.declared.words.Stage.TheVariants.{Scrambled, Coded, Kept, Interleaved, Points}
 use Rattle.modem_cli.specs.declared.words.Command.{Command}
 use Rattle.modem_cli.specs.declared.words.Command.TheVariants.{Bits, Show}
 use Rattle.modem_cli.specs.declared.refusals.Refusal.TheVariants.{Words}
@@ -133,27 +133,41 @@ some_rate P decide =
       | inr none ↦ inr (λ found. none (index_of found.0) (index_below found.0) (subst P (sym (rate_at-index_of found.0)) found.1))
     ]
 
--- some stage has a property, or none has
-no_stage : (P : Stage → Type 0) → (P Scrambled → ⊥) → (P Coded → ⊥) → (P Kept → ⊥) → (P Interleaved → ⊥) → (stage : Stage) → P stage → ⊥
-no_stage P a b c d Scrambled p = a p
-no_stage P a b c d Coded p = b p
-no_stage P a b c d Kept p = c p
-no_stage P a b c d Interleaved p = d p
+-- the stages by number
+abbrev stage_at : ℕ → Stage
+stage_at zero = Scrambled
+stage_at (suc zero) = Coded
+stage_at (suc (suc zero)) = Kept
+stage_at (suc (suc (suc zero))) = Interleaved
+stage_at (suc (suc (suc (suc n)))) = Points
 
+abbrev number_of : Stage → ℕ
+number_of Scrambled = 0
+number_of Coded = 1
+number_of Kept = 2
+number_of Interleaved = 3
+number_of Points = 4
+
+number_below : (stage : Stage) → number_of stage < 5
+number_below Scrambled = lit< tt
+number_below Coded = lit< tt
+number_below Kept = lit< tt
+number_below Interleaved = lit< tt
+number_below Points = lit< tt
+
+stage_at-number_of : (stage : Stage) → stage_at (number_of stage) ≡ stage
+stage_at-number_of Scrambled = refl
+stage_at-number_of Coded = refl
+stage_at-number_of Kept = refl
+stage_at-number_of Interleaved = refl
+stage_at-number_of Points = refl
+
+-- some stage has a property, or none has
 some_stage : (P : Stage → Type 0) → ((stage : Stage) → Decided (P stage)) → Decided ((stage : Stage) × P stage)
 some_stage P decide =
-    elim (decide Scrambled) [
-      | inl p ↦ inl (Scrambled, p)
-      | inr a ↦ elim (decide Coded) [
-        | inl p ↦ inl (Coded, p)
-        | inr b ↦ elim (decide Kept) [
-          | inl p ↦ inl (Kept, p)
-          | inr c ↦ elim (decide Interleaved) [
-            | inl p ↦ inl (Interleaved, p)
-            | inr d ↦ inr (λ found. no_stage P a b c d found.0 found.1)
-          ]
-        ]
-      ]
+    elim (some_below (λ k. P (stage_at k)) (λ k. decide (stage_at k)) 5) [
+      | inl found ↦ inl (stage_at found.0, found.1)
+      | inr none ↦ inr (λ found. none (number_of found.0) (number_below found.0) (subst P (sym (stage_at-number_of found.0)) found.1))
     ]
 
 -- some `bits` is said or none, and some `show`

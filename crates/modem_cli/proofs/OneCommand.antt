@@ -1,11 +1,11 @@
 -- Words say at most one command.
-use Rattle.std.proofs.Common.{◌≡◌, ℕ, List, decimal, sym, ap, ◌∙◌, refl, arith, cond, eqb}
+use Rattle.std.proofs.Common.{◌≡◌, ℕ, ◌+◌, List, get_or, decimal, sym, ap, ◌∙◌, refl, arith, cond, eqb}
 use Rattle.std.proofs.lemmas.Fmt.{decimal_injective}
 use Rattle.rate_table.specs.declared.Rate.{Rate}
 use Rattle.rate_table.specs.declared.Rate.TheVariants.{R6, R9, R12, R18, R24, R36, R48, R54}
 use Rattle.rate_table.specs.Table.{row_of}
 use Rattle.modem_cli.specs.declared.words.Stage.{Stage}
-use Rattle.modem_cli.specs.declared.words.Stage.TheVariants.{Scrambled, Coded, Kept, Interleaved}
+use Rattle.modem_cli.specs.declared.words.Stage.TheVariants.{Scrambled, Coded, Kept, Interleaved, Points}
 use Rattle.modem_cli.specs.declared.words.Command.{Command}
 use Rattle.modem_cli.specs.declared.words.Command.TheVariants.{Bits, Show}
 use Rattle.modem_cli.specs.Grammar.{Say, stage_word}
@@ -38,24 +38,25 @@ one_rate a b same =
 one_seed : (a b : ℕ) → IsSeed a → IsSeed b → decimal a ≡ decimal b → a ≡ b
 one_seed a b in_a in_b same = decimal_injective a b (omega (arith, in_a.1)) (omega (arith, in_b.1)) same
 
+-- the stage whose word begins with two letters of this sum
+abbrev stage_with : ℕ → Stage
+stage_with sum =
+    cond (eqb sum 214) Scrambled (cond (eqb sum 210) Coded (cond (eqb sum 208) Kept (cond (eqb sum 215) Interleaved Points)))
+
+abbrev first_letters : List ℕ → ℕ
+first_letters word = get_or word 0 0 + get_or word 1 0
+
+stage_with-first_letters : (stage : Stage) → stage_with (first_letters (stage_word stage)) ≡ stage
+stage_with-first_letters Scrambled = refl
+stage_with-first_letters Coded = refl
+stage_with-first_letters Kept = refl
+stage_with-first_letters Interleaved = refl
+stage_with-first_letters Points = refl
+
 -- one word names one stage
 one_stage : (a b : Stage) → stage_word a ≡ stage_word b → a ≡ b
-one_stage Scrambled Scrambled same = refl
-one_stage Scrambled Coded same = cc
-one_stage Scrambled Kept same = cc
-one_stage Scrambled Interleaved same = cc
-one_stage Coded Scrambled same = cc
-one_stage Coded Coded same = refl
-one_stage Coded Kept same = cc
-one_stage Coded Interleaved same = cc
-one_stage Kept Scrambled same = cc
-one_stage Kept Coded same = cc
-one_stage Kept Kept same = refl
-one_stage Kept Interleaved same = cc
-one_stage Interleaved Scrambled same = cc
-one_stage Interleaved Coded same = cc
-one_stage Interleaved Kept same = cc
-one_stage Interleaved Interleaved same = refl
+one_stage a b same =
+    sym (stage_with-first_letters a) ∙ ap (λ word. stage_with (first_letters word)) same ∙ stage_with-first_letters b
 
 pub one_command : (words : List (List ℕ)) (a b : Command) → Say words a → Say words b → a ≡ b
 one_command words (Bits rate seed) (Bits rate' seed') says says' =

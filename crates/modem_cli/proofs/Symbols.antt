@@ -1,10 +1,15 @@
 -- The interleaved bits of one symbol more.
 use Rattle.std.proofs.Common.{◌≡◌, ◌+◌, ◌-◌, ◌++◌, ◌∷◌, [], ℕ, List, take, drop, ap, sym, ◌∙◌, arith}
 use Rattle.std.proofs.lemmas.List.{flat_map_more, map-id}
+use Rattle.std.proofs.lemmas.Grind.{flat_map-append}
 use Rattle.std.proofs.lemmas.List.FromFn.{map-range_with_len_more}
 use Rattle.std.specs.List.{flat_map, range_with_len}
 use Rattle.rate_table.specs.declared.Rate.{Rate}
 use Rattle.interleave_two.specs.Place.{interleaved, interleaved_symbols, symbol_bits}
+use Rattle.fixed_complex.specs.declared.Cx.{Cx}
+use Rattle.rate_table.specs.Table.{row_of}
+use Rattle.symbol_builder.specs.Points.{points_of}
+use Rattle.modem_cli.specs.Pairs.{line_of_pair, text_of_pairs}
 
 one_more : (n : ℕ) → range_with_len 0 (n + 1) ≡ range_with_len 0 n ++ n ∷ []
 one_more n =
@@ -30,3 +35,20 @@ pub part_is : (bits items : List ℕ) (at count n : ℕ) → items ≡ bits → 
 part_is bits items at count n same long =
     let size : (at + count) - at ≡ n = omega arith in
     ap (λ k. take k (drop at items)) size ∙ ap (λ list. take n (drop at list)) same
+
+-- the text of pairs, appended
+text_of_pairs-append : (a b : List Cx) → text_of_pairs (a ++ b) ≡ text_of_pairs a ++ text_of_pairs b
+text_of_pairs-append a b = flat_map-append line_of_pair a b
+
+-- after the lines of a symbol's points were appended, the text has those of one symbol more
+pub points_appended : (rate : Rate) (bits before after symbol : List ℕ) (m : ℕ)
+    → before ≡ text_of_pairs (flat_map (λ m. points_of (row_of rate).modulation (interleaved rate (symbol_bits rate bits m))) (range_with_len 0 m))
+    → symbol ≡ symbol_bits rate bits m → after ≡ before ++ text_of_pairs (points_of (row_of rate).modulation (interleaved rate symbol))
+    → after ≡ text_of_pairs (flat_map (λ m. points_of (row_of rate).modulation (interleaved rate (symbol_bits rate bits m))) (range_with_len 0 (m + 1)))
+points_appended rate bits before after symbol m so_far is appended =
+    let of_symbol : ℕ → List Cx = λ m. points_of (row_of rate).modulation (interleaved rate (symbol_bits rate bits m)) in
+    let more : flat_map of_symbol (range_with_len 0 (m + 1)) ≡ flat_map of_symbol (range_with_len 0 m) ++ of_symbol m =
+    ap (flat_map of_symbol) (one_more m) ∙ sym (flat_map_more of_symbol [] (range_with_len 0 m) m) in
+    appended ∙ ap (λ front. front ++ text_of_pairs (points_of (row_of rate).modulation (interleaved rate symbol))) so_far
+    ∙ ap (λ one. text_of_pairs (flat_map of_symbol (range_with_len 0 m)) ++ text_of_pairs (points_of (row_of rate).modulation (interleaved rate one))) is
+    ∙ sym (ap text_of_pairs more ∙ text_of_pairs-append (flat_map of_symbol (range_with_len 0 m)) (of_symbol m))

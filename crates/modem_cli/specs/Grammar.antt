@@ -5,7 +5,7 @@ use Rattle.rate_table.specs.declared.Rate.{Rate}
 use Rattle.rate_table.specs.Table.{row_of}
 use Rattle.ofdm_scrambler.specs.Sequence.{IsSeed}
 use Rattle.modem_cli.specs.declared.words.Stage.{Stage}
-use Rattle.modem_cli.specs.declared.words.Stage.TheVariants.{Scrambled, Coded, Kept, Interleaved}
+use Rattle.modem_cli.specs.declared.words.Stage.TheVariants.{Scrambled, Coded, Kept, Interleaved, Points}
 use Rattle.modem_cli.specs.declared.words.Command.{Command}
 use Rattle.modem_cli.specs.declared.words.Command.TheVariants.{Bits, Show}
 
@@ -19,6 +19,7 @@ stage_word Scrambled = codes "scrambled"
 stage_word Coded = codes "coded"
 stage_word Kept = codes "kept"
 stage_word Interleaved = codes "interleaved"
+stage_word Points = codes "points"
 
 -- the words RATE SEED
 abbrev pub rate_and_seed : Rate → ℕ → List (List ℕ)

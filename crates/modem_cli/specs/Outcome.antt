@@ -4,12 +4,14 @@ use Rattle.bit_lists.specs.Text.{text_of_bits}
 use Rattle.rate_table.specs.declared.Rate.{Rate}
 use Rattle.data_field.specs.Field.{most_octets}
 use Rattle.data_field.specs.Stages.{field_at, code_at, kept_at, interleaved_at}
+use Rattle.symbol_builder.specs.Points.{points_at}
+use Rattle.modem_cli.specs.Pairs.{text_of_pairs}
 use Rattle.modem_cli.specs.declared.refusals.Refusal.{Refusal}
 use Rattle.modem_cli.specs.declared.refusals.Refusal.TheVariants.{Words, EmptyPsdu, LongPsdu}
 use Rattle.modem_cli.specs.declared.refusals.Status.{Status}
 use Rattle.modem_cli.specs.declared.refusals.Status.TheVariants as status
 use Rattle.modem_cli.specs.declared.words.Stage.{Stage}
-use Rattle.modem_cli.specs.declared.words.Stage.TheVariants.{Scrambled, Coded, Kept, Interleaved}
+use Rattle.modem_cli.specs.declared.words.Stage.TheVariants.{Scrambled, Coded, Kept, Interleaved, Points}
 use Rattle.modem_cli.specs.declared.words.Command.{Command}
 use Rattle.modem_cli.specs.declared.words.Command.TheVariants.{Bits, Show}
 use Rattle.modem_cli.specs.Grammar.{Say, SayNothing}
@@ -25,6 +27,7 @@ stage_text_of Scrambled rate seed psdu = text_of_bits (field_at rate seed psdu)
 stage_text_of Coded rate seed psdu = text_of_bits (code_at rate seed psdu)
 stage_text_of Kept rate seed psdu = text_of_bits (kept_at rate seed psdu)
 stage_text_of Interleaved rate seed psdu = text_of_bits (interleaved_at rate seed psdu)
+stage_text_of Points rate seed psdu = text_of_pairs (points_at rate seed psdu)
 
 -- the outcome of a command that reads a PSDU and writes this of it
 abbrev pub psdu_outcome : (List ℕ → List ℕ) → List ℕ → Outcome

@@ -3,6 +3,7 @@
 
 mod field;
 mod laws;
+mod points;
 mod program;
 mod refusals;
 pub mod stages;

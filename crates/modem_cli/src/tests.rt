@@ -102,13 +102,23 @@ fn refuses_an_empty_psdu(rt: HostRuntime) -> Result<(), Fail> {
 
 #[test]
 fn begins_the_longer_answers(rt: HostRuntime) -> Result<(), Fail> {
-    let rows: [(&str, usize, &str); 3] = [
+    let rows: [(&str, usize, &str); 5] = [
         ("bits 48 93", 289, "001101110000"),
         ("show interleaved 6 93", 97, "000000111"),
         (
             "show coded 9 93",
             73,
             "001110101101000100100100101000000011001010110010100100001011111010110100\n",
+        ),
+        (
+            "show points 6 93",
+            630,
+            "-648 0\n-648 0\n-648 0\n-648 0\n-648 0\n-648 0\n648 0\n648 0\n648 0\n",
+        ),
+        (
+            "show points 54 93",
+            436,
+            "-300 300\n500 500\n100 300\n-700 100\n500 500\n300 100\n-300 -500\n",
         ),
     ];
     for (line, count, front) in rows {

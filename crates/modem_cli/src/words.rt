@@ -19,6 +19,8 @@ pub enum Stage {
     Kept,
     /// The bits of all its symbols after interleaving.
     Interleaved,
+    /// The points of all its symbols.
+    Points,
 }
 
 /// What the words ask for (own).
@@ -39,7 +41,8 @@ pub enum Command {
 
 /// The command that the words say, without the program's name (own): `None` exactly where they say none. RATE is a
 /// number of megabits a second, 6 to 54 by the table of the rates, and SEED is from 1 to 127, both in decimal digits
-/// with no sign and no leading zero; a stage is `scrambled`, `coded`, `kept` or `interleaved`. Takes no memory.
+/// with no sign and no leading zero; a stage is `scrambled`, `coded`, `kept`, `interleaved` or
+/// `points`. Takes no memory.
 pub fn read_words(words: &Vec<String>) -> Option<Command>
     ensures command { IfSome result (Say (texts_of words.now)) }
     ensures none { IfNone result (SayNothing (texts_of words.now)) }
@@ -101,6 +104,7 @@ fn read_stage(word: &str) -> Option<Stage>
         "coded" => Some(Stage::Coded),
         "kept" => Some(Stage::Kept),
         "interleaved" => Some(Stage::Interleaved),
+        "points" => Some(Stage::Points),
         _ => None,
     }
 }

@@ -1,6 +1,7 @@
 -- A register of the last seven bits of the sequence.
-use Rattle.std.proofs.Common.{◌≡◌, ℕ, zero, suc, ◌+◌, ◌*◌, ◌%◌, ◌<◌, List, map, length, slice_index, bit_xor, refl, arith}
+use Rattle.std.proofs.Common.{◌≡◌, ℕ, zero, suc, ◌+◌, ◌*◌, ◌%◌, ◌<◌, List, map, length, slice_index, bit_xor, ◌∙◌, ap, refl, arith}
 use Rattle.std.specs.List.{range_with_len}
+use Rattle.std.proofs.lemmas.List.{ext_get_or}
 use Rattle.std.proofs.lemmas.List.FromFn.{length-map-range_with_len, get_or-map-range_with_len}
 use Rattle.bit_lists.specs.Bits.{exclusive_or, IsBit, AreBits}
 use Rattle.std.specs.Int.{bit_at}
@@ -88,3 +89,47 @@ bit_xor_is (suc zero) zero p q = refl
 bit_xor_is (suc zero) (suc zero) p q = refl
 bit_xor_is (suc (suc a)) b p q = absurd (omega arith)
 bit_xor_is a (suc (suc b)) p q = absurd (omega arith)
+
+-- each place of the sequence of the number 0 is 0
+sequence_of_zero : (k : ℕ) → from_minus_seven 0 k ≡ 0
+unfolding from_minus_seven
+sequence_of_zero zero = refl
+sequence_of_zero (suc zero) = refl
+sequence_of_zero (suc (suc zero)) = refl
+sequence_of_zero (suc (suc (suc zero))) = refl
+sequence_of_zero (suc (suc (suc (suc zero)))) = refl
+sequence_of_zero (suc (suc (suc (suc (suc zero))))) = refl
+sequence_of_zero (suc (suc (suc (suc (suc (suc zero)))))) = refl
+sequence_of_zero (suc (suc (suc (suc (suc (suc (suc k))))))) =
+    omega (arith, sequence_of_zero k, sequence_of_zero (suc (suc (suc k))))
+
+-- so the number 0 scrambles nothing
+pub scrambled_by_zero : (bits : List ℕ) → AreBits bits → scrambled 0 bits ≡ bits
+scrambled_by_zero bits are_bits =
+    let changed = λ (n : ℕ). exclusive_or (slice_index bits n) (scrambler_bit 0 n) in
+    let long = length-map-range_with_len changed 0 (length bits) in
+    ext_get_or 0 (scrambled 0 bits) bits long
+    (λ n lt. let is_bit : slice_index bits n < 2 = are_bits n 0 (omega (arith, long)) in
+      get_or-map-range_with_len changed 0 (length bits) n n 0 (omega (arith, long)) (omega arith) ∙ (let z = sequence_of_zero (n + 7) in omega arith))
+
+length-scrambled : (number : ℕ) (bits : List ℕ) → length (scrambled number bits) ≡ length bits
+length-scrambled number bits = length-map-range_with_len (λ n. exclusive_or (slice_index bits n) (scrambler_bit number n)) 0 (length bits)
+
+scrambled_at : (number : ℕ) (bits : List ℕ) (n : ℕ) → n < length bits → slice_index (scrambled number bits) n ≡ exclusive_or (slice_index bits n) (scrambler_bit number n)
+scrambled_at number bits n lt =
+    get_or-map-range_with_len (λ n. exclusive_or (slice_index bits n) (scrambler_bit number n)) 0 (length bits) n n 0 lt (omega arith)
+
+twice_is : (a z : ℕ) → IsBit a → exclusive_or (exclusive_or a z) z ≡ a
+twice_is a z bit = omega arith
+
+-- to scramble twice with one number changes nothing
+pub scrambled_twice : (number : ℕ) (bits : List ℕ) → AreBits bits → scrambled number (scrambled number bits) ≡ bits
+scrambled_twice number bits are_bits =
+    let long = length-scrambled number (scrambled number bits) ∙ length-scrambled number bits in
+    ext_get_or 0 (scrambled number (scrambled number bits)) bits long
+    (λ n lt.
+      let inside : n < length bits = omega (arith, long) in
+      let between : n < length (scrambled number bits) = omega (arith, length-scrambled number bits) in
+      scrambled_at number (scrambled number bits) n between
+      ∙ ap (λ bit. exclusive_or bit (scrambler_bit number n)) (scrambled_at number bits n inside)
+      ∙ twice_is (slice_index bits n) (scrambler_bit number n) (are_bits n 0 inside))

@@ -1,1 +1,2 @@
 mod LastSeven
+mod Fronts

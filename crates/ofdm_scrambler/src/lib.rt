@@ -1,8 +1,8 @@
 //! The scrambler of the DATA field: its seed and its sequence (IEEE Std 802.11-2012, 18.3.5.5).
 #![tactic(auto)]
 
-ghost use Rattle.std.specs.Prelude.{◌≡◌, ◌≤◌, ◌<◌, ◌↔◌, ◌*◌, ◌+◌, ◌%◌, length, IsSome, IfSome};
-ghost use Rattle.bit_lists.specs.Bits.{AreBits, exclusive_or};
+ghost use Rattle.std.specs.Prelude.{◌≡◌, ℕ, ◌≤◌, ◌<◌, ◌↔◌, ◌*◌, ◌+◌, ◌%◌, length, replicate, IsSome, IfSome};
+ghost use Rattle.bit_lists.specs.Bits.{AreBits, IsBit, exclusive_or};
 ghost use Rattle.std.specs.Int.{bit_at};
 ghost use Rattle.ofdm_scrambler.specs.Sequence.{IsSeed, scrambler_sequence, scrambled};
 
@@ -106,6 +106,51 @@ pub fn scramble_in_place(seed: Seed, bits: &mut [u8])
     }
 }
 
+/// Changes bit n to its exclusive or with z(n) of a number from 0 to 127, for each of the bits, which are 0 or 1 (IEEE
+/// Std 802.11-2012, 18.3.5.5; the number is own). For a seed's number this undoes what the seed's scrambler did; for
+/// the number 0 nothing changes. Takes no memory.
+pub fn descramble_in_place(number: u8, bits: &mut [u8])
+    requires number { number ≤ 127 }
+    requires bits { AreBits bits.old }
+    ensures values { bits.new ≡ scrambled number bits.old }
+    ensures bits { AreBits bits.new }
+    ensures unchanged { number ≡ 0 → bits.new ≡ bits.old }
+{
+    if let Some(seed) = Seed::new(number) {
+        scramble_in_place(seed, bits);
+    }
+}
+
+/// The number, from 0 to 127, whose sequence begins with seven bits: that of a seed, or 0 where all seven are 0 (IEEE
+/// Std 802.11-2012, 18.3.5.5; the numbers are own). Takes no memory.
+pub fn seed_of_front(front: &[u8; 7]) -> u8
+    requires { AreBits front.now }
+    ensures begins { scrambler_sequence result 7 ≡ front.now }
+    ensures seven_bits { result ≤ 127 }
+    ensures no_other { (number : ℕ) → number ≤ 127 → scrambler_sequence number 7 ≡ front.now → number ≡ result }
+    ensures zero { (result ≡ 0) ↔ (front.now ≡ replicate 7 0) }
+{
+    let [z0, z1, z2, z3, z4, z5, z6] = *front;
+    let x1 = sum_of_bits(z6, z2);
+    let x2 = sum_of_bits(z5, z1);
+    let x3 = sum_of_bits(z4, z0);
+    let x4 = sum_of_bits(z3, x1);
+    let x5 = sum_of_bits(z2, x2);
+    let x6 = sum_of_bits(z1, x3);
+    let x7 = sum_of_bits(z0, x4);
+    x1 + 2 * x2 + 4 * x3 + 8 * x4 + 16 * x5 + 32 * x6 + 64 * x7
+}
+
+// The exclusive or of two bits.
+fn sum_of_bits(a: u8, b: u8) -> u8
+    requires a { IsBit a }
+    requires b { IsBit b }
+    ensures value { result ≡ exclusive_or a b }
+    ensures bit { IsBit result }
+{
+    a ^ b
+}
+
 #[cfg(test)]
 mod tests {
     use super::*;
@@ -130,5 +175,21 @@ mod tests {
         sequence(seed, &mut written);
         assert_eq!(rt; written, scrambled);
         Ok(())
+    }
+
+    #[test]
+    fn fronts_name_seeds(rt: HostRuntime) {
+        assert_eq!(rt; seed_of_front(&[0, 0, 0, 1, 0, 0, 1]), 1);
+        assert_eq!(rt; seed_of_front(&[0, 1, 1, 0, 1, 1, 0]), 93);
+        assert_eq!(rt; seed_of_front(&[0; 7]), 0);
+    }
+
+    #[test]
+    fn descrambles(rt: HostRuntime) {
+        let mut bits = [0, 1, 1, 0, 1, 1, 0, 0, 0, 0, 0, 1, 1, 0, 0, 1];
+        descramble_in_place(93, &mut bits);
+        assert_eq!(rt; bits, [0; 16]);
+        descramble_in_place(0, &mut bits);
+        assert_eq!(rt; bits, [0; 16]);
     }
 }

@@ -28,15 +28,22 @@ down_in_place-requires t c =
     let last_long : length c.split_at_mut-first.result.1.now ≡ 2 ^ k = omega (arith, half, half_length c.args.level c.if-level-gt0.true) in
     let step : 32 / (length c.args.x.now / 2) ≡ 2 ^ (5 - k) = rw half (step_of_level k (omega arith)) in
     let part : IsPart k c.split_at_mut-first.result.0.now c.split_at_mut-first.result.1.now c.part.new.first c.part.new.last = record {
-        sums = λ j lt. c.part.ensures.sums j (omega (arith, first_long));
-        differences = λ j lt. rw step at (c.part.ensures.differences j (omega (arith, last_long)))
-      } in
-    (omega arith, (omega arith, (omega (arith, first_long),
-      rw (next_bound c.args.level c.if-level-gt0.true c.requires.level)
-        (sums_sizes k _ c.split_at_mut-first.result.0.now c.split_at_mut-first.result.1.now c.part.new.first c.part.new.last (omega (arith, first_long)) first_long last_long
-        (sizes-first _ c.split_at_mut-first.result.0.now c.split_at_mut-first.result.1.now (rw c.split_at_mut-first.ensures.value at c.requires.sizes))
-        (sizes-last _ c.split_at_mut-first.result.0.now c.split_at_mut-first.result.1.now (rw c.split_at_mut-first.ensures.value at c.requires.sizes))
-        part))))
+      sums = λ j lt. c.part.ensures.sums j (omega (arith, first_long));
+      differences = λ j lt. rw step at (c.part.ensures.differences j (omega (arith, last_long)));
+    } in (
+      omega arith,
+      (
+        omega arith,
+        (
+          omega (arith, first_long),
+          rw (next_bound c.args.level c.if-level-gt0.true c.requires.level)
+              (sums_sizes k _ c.split_at_mut-first.result.0.now c.split_at_mut-first.result.1.now c.part.new.first c.part.new.last (omega (arith, first_long)) first_long last_long
+              (sizes-first _ c.split_at_mut-first.result.0.now c.split_at_mut-first.result.1.now (rw c.split_at_mut-first.ensures.value at c.requires.sizes))
+              (sizes-last _ c.split_at_mut-first.result.0.now c.split_at_mut-first.result.1.now (rw c.split_at_mut-first.ensures.value at c.requires.sizes))
+              part),
+        ),
+      ),
+    )
 
 pub down_in_place-requires-then-level-gt0 : goal.down_in_place-requires-then-level-gt0
 down_in_place-requires-then-level-gt0 t c =
@@ -46,15 +53,22 @@ down_in_place-requires-then-level-gt0 t c =
     let last_long : length c.split_at_mut-first.result.1.now ≡ 2 ^ k = omega (arith, half, half_length c.args.level c.if-level-gt0.true) in
     let step : 32 / (length c.args.x.now / 2) ≡ 2 ^ (5 - k) = rw half (step_of_level k (omega arith)) in
     let part : IsPart k c.split_at_mut-first.result.0.now c.split_at_mut-first.result.1.now c.part.new.first c.part.new.last = record {
-        sums = λ j lt. c.part.ensures.sums j (omega (arith, first_long));
-        differences = λ j lt. rw step at (c.part.ensures.differences j (omega (arith, last_long)))
-      } in
-    (omega arith, (omega arith, (omega (arith, last_long),
-      rw (next_bound c.args.level c.if-level-gt0.true c.requires.level)
-        (differences_sizes k _ c.split_at_mut-first.result.0.now c.split_at_mut-first.result.1.now c.part.new.first c.part.new.last (bound_above c.args.level) (omega (arith, last_long)) first_long last_long
-        (sizes-first _ c.split_at_mut-first.result.0.now c.split_at_mut-first.result.1.now (rw c.split_at_mut-first.ensures.value at c.requires.sizes))
-        (sizes-last _ c.split_at_mut-first.result.0.now c.split_at_mut-first.result.1.now (rw c.split_at_mut-first.ensures.value at c.requires.sizes))
-        part))))
+      sums = λ j lt. c.part.ensures.sums j (omega (arith, first_long));
+      differences = λ j lt. rw step at (c.part.ensures.differences j (omega (arith, last_long)));
+    } in (
+      omega arith,
+      (
+        omega arith,
+        (
+          omega (arith, last_long),
+          rw (next_bound c.args.level c.if-level-gt0.true c.requires.level)
+              (differences_sizes k _ c.split_at_mut-first.result.0.now c.split_at_mut-first.result.1.now c.part.new.first c.part.new.last (bound_above c.args.level) (omega (arith, last_long)) first_long last_long
+              (sizes-first _ c.split_at_mut-first.result.0.now c.split_at_mut-first.result.1.now (rw c.split_at_mut-first.ensures.value at c.requires.sizes))
+              (sizes-last _ c.split_at_mut-first.result.0.now c.split_at_mut-first.result.1.now (rw c.split_at_mut-first.ensures.value at c.requires.sizes))
+              part),
+        ),
+      ),
+    )
 
 pub returns-then-level-gt0 : goal.returns-then-level-gt0
 returns-then-level-gt0 t c =
@@ -65,11 +79,11 @@ returns-then-level-gt0 t c =
     let sums_long : length c.down_in_place.new.x ≡ 2 ^ k = omega (arith, first_long) in
     let step : 32 / (length c.args.x.now / 2) ≡ 2 ^ (5 - k) = rw half (step_of_level k (omega arith)) in
     let part : IsPart k c.split_at_mut-first.result.0.now c.split_at_mut-first.result.1.now c.part.new.first c.part.new.last = record {
-        sums = λ j lt. c.part.ensures.sums j (omega (arith, first_long));
-        differences = λ j lt. rw step at (c.part.ensures.differences j (omega (arith, last_long)))
-      } in
+      sums = λ j lt. c.part.ensures.sums j (omega (arith, first_long));
+      differences = λ j lt. rw step at (c.part.ensures.differences j (omega (arith, last_long)));
+    } in
     let down = down_of_halves k c.split_at_mut-first.result.0.now c.split_at_mut-first.result.1.now c.part.new.first c.part.new.last c.down_in_place.new.x c.down_in_place-then-level-gt0.new.x
-      first_long sums_long part (record { each = c.down_in_place.ensures }) (record { each = c.down_in_place-then-level-gt0.ensures }) in
+    first_long sums_long part (record { each = c.down_in_place.ensures }) (record { each = c.down_in_place-then-level-gt0.ensures }) in
     let level : c.args.level ≡ suc k = omega arith in
     rw (c.split_at_mut-first.ensures.value, level) down.each
 

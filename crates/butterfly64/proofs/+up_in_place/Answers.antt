@@ -10,9 +10,16 @@ use Rattle.butterfly64.proofs.+up_in_place.Goals as goal
 
 pub up_in_place-requires-then-level-gt0 : goal.up_in_place-requires-then-level-gt0
 up_in_place-requires-then-level-gt0 t c =
-    let half = half_of c.args.level _ c.if-level-gt0.true c.requires.length in
-    (omega arith, (omega arith, (omega (arith, half, half_length c.args.level c.if-level-gt0.true),
-      sizes-last (2 ^ 31) c.split_at_mut-evens.result.0.now c.split_at_mut-evens.result.1.now (rw c.split_at_mut-evens.ensures.value at c.requires.sizes))))
+    let half = half_of c.args.level _ c.if-level-gt0.true c.requires.length in (
+      omega arith,
+      (
+        omega arith,
+        (
+          omega (arith, half, half_length c.args.level c.if-level-gt0.true),
+          sizes-last (2 ^ 31) c.split_at_mut-evens.result.0.now c.split_at_mut-evens.result.1.now (rw c.split_at_mut-evens.ensures.value at c.requires.sizes),
+        ),
+      ),
+    )
 
 pub nonzero_div-half-then-level-gt0 : goal.nonzero_div-half-then-level-gt0
 nonzero_div-half-then-level-gt0 t c = omega (arith, half_of c.args.level _ c.if-level-gt0.true c.requires.length, pow_pos (c.args.level - 1))
@@ -42,12 +49,12 @@ returns-then-level-gt0 t c =
     let joined_long : length c.join.new.evens ≡ 2 ^ k = omega (arith, evens_long) in
     let step : 32 / (length c.args.x.now / 2) ≡ 2 ^ (5 - k) = rw half (step_of_level k (omega arith)) in
     let join : IsJoin k c.up_in_place.new.x c.up_in_place-then-level-gt0.new.x c.join.new.evens c.join.new.odds =
-      record {
-        sums = λ j lt. rw step at (c.join.ensures.first j (omega (arith, evens_long)));
-        differences = λ j lt. rw step at (c.join.ensures.last j (omega (arith, odds_long)))
-      } in
+    record {
+      sums = λ j lt. rw step at (c.join.ensures.first j (omega (arith, evens_long)));
+      differences = λ j lt. rw step at (c.join.ensures.last j (omega (arith, odds_long)));
+    } in
     let up = up_of_halves k c.split_at_mut-evens.result.0.now c.split_at_mut-evens.result.1.now c.up_in_place.new.x c.up_in_place-then-level-gt0.new.x c.join.new.evens c.join.new.odds
-      evens_long joined_long (record { each = c.up_in_place.ensures }) (record { each = c.up_in_place-then-level-gt0.ensures }) join in
+    evens_long joined_long (record { each = c.up_in_place.ensures }) (record { each = c.up_in_place-then-level-gt0.ensures }) join in
     let level : c.args.level ≡ suc k = omega arith in
     rw (c.split_at_mut-evens.ensures.value, level) up.each
 

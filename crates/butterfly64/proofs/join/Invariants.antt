@@ -10,5 +10,5 @@ invariant-loop-j l = record {
   evens_done : (k : ℕ) → k < l.j → entry l.evens k ≡ plus (entry l.fn.evens k) (scaled_product (turn_at (l.step * k)) (entry l.fn.odds k));
   odds_done : (k : ℕ) → k < l.j → entry l.odds k ≡ minus (entry l.fn.evens k) (scaled_product (turn_at (l.step * k)) (entry l.fn.odds k));
   evens_left : (k : ℕ) → l.j ≤ k → entry l.evens k ≡ entry l.fn.evens k;
-  odds_left : (k : ℕ) → l.j ≤ k → entry l.odds k ≡ entry l.fn.odds k
+  odds_left : (k : ℕ) → l.j ≤ k → entry l.odds k ≡ entry l.fn.odds k;
 }

@@ -10,5 +10,5 @@ invariant-loop-j l = record {
   first_done : (k : ℕ) → k < l.j → entry l.first k ≡ plus (entry l.fn.first k) (entry l.fn.last k);
   last_done : (k : ℕ) → k < l.j → entry l.last k ≡ scaled_product (conjugate (turn_at (l.step * k))) (minus (entry l.fn.first k) (entry l.fn.last k));
   first_left : (k : ℕ) → l.j ≤ k → entry l.first k ≡ entry l.fn.first k;
-  last_left : (k : ℕ) → l.j ≤ k → entry l.last k ≡ entry l.fn.last k
+  last_left : (k : ℕ) → l.j ≤ k → entry l.last k ≡ entry l.fn.last k;
 }

@@ -1,0 +1,13 @@
+use Rattle.std.proofs.Common.{◌*◌, ◌∙◌, ap, take, drop}
+use Rattle.rate_table.specs.Table.{row_of}
+use Rattle.modem_cli.proofs.Symbols.{points_appended, part_is}
+use Rattle.modem_cli.proofs.points.points_text.Goals as goal
+
+pub loop-m-preserved : goal.loop-m-preserved
+loop-m-preserved c =
+    let part = part_is c.in_ok-kept.kept.items c.deref.result.now (c.loop-m.m * c.coded_bits-coded_bits.result) c.coded_bits-coded_bits.result (row_of c.args.rate).coded_bits
+    c.deref.ensures.value c.coded_bits-coded_bits.ensures in
+    points_appended c.args.rate c.in_ok-kept.kept.items c.loop-m.text.items c.push_points.new.text.items _ c.loop-m.m
+    c.loop-m.invariant
+    (part ∙ ap (λ n. take (row_of c.args.rate).coded_bits (drop (c.loop-m.m * n) c.in_ok-kept.kept.items)) c.coded_bits-coded_bits.ensures)
+    c.in_ok-push_points.ensures
