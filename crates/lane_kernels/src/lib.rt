@@ -10,8 +10,8 @@ ghost use Rattle.lane_kernels.specs.Lanes.{AreOf16Bits, AreWithin, HoldsSums, ei
 use fixed_complex::{Cx, Sample, add, conj, mul};
 use std::simd::prelude::*;
 
-/// The sum of the products of `a`'s samples with the conjugates of `b`'s, place by place. The slices are equally long
-/// (own). A part of a product is at most 2^31 in size, so the sum of 2^24 of them fits.
+/// The sum of the products of `a`'s samples with the conjugates of `b`'s, place by place. The slices are equally long,
+/// at most 2^24 samples (own). A part of a product is at most 2^31 in size, so the sum of 2^24 of them fits.
 pub fn dot(a: &[Sample], b: &[Sample]) -> Cx
     requires short { length a.now ≤ 2 ^ 24 }
     requires long { length a.now ≡ length b.now }
@@ -27,7 +27,7 @@ pub fn dot(a: &[Sample], b: &[Sample]) -> Cx
     dot
 }
 
-/// The sum of the squares of the samples' sizes, `i*i + q*q` (own). One is at most 2^31, so the sum of 2^24 of them
+/// The sum of the squares of the sizes of at most 2^24 samples, `i*i + q*q` each (own). One is at most 2^31, so the sum of 2^24 of them
 /// fits.
 pub fn energy(a: &[Sample]) -> i64
     requires { length a.now ≤ 2 ^ 24 }
@@ -40,7 +40,8 @@ pub fn energy(a: &[Sample]) -> i64
     energy
 }
 
-/// The least place of a loud sample, one with a component larger than 256 in size, or the length (own).
+/// The least place of a loud sample, one with a component larger than 256 in size, or the length. There are at most
+/// 2^24 samples (own).
 pub fn first_loud(a: &[Sample]) -> usize
     requires { length a.now ≤ 2 ^ 24 }
     ensures { result ≡ first_loud_of a.now }
@@ -53,7 +54,8 @@ pub fn first_loud(a: &[Sample]) -> usize
     a.len()
 }
 
-/// Adds `b`'s samples to `a`'s, each component held within -32768 to 32767. The slices are equally long (own).
+/// Adds `b`'s samples to `a`'s, each component held within -32768 to 32767. The slices are equally long, at most 2^24
+/// samples (own).
 pub fn add_saturating(a: &mut [Sample], b: &[Sample])
     requires short { length a.old ≤ 2 ^ 24 }
     requires long { length a.old ≡ length b.now }
@@ -66,7 +68,8 @@ pub fn add_saturating(a: &mut [Sample], b: &[Sample])
     add_rest(a, b, 8 * whole);
 }
 
-/// How many places of two equally long slices differ (own).
+/// How many places of two equally long slices of at most 2^24 bytes differ (own). The count is at most the length, so
+/// it fits.
 pub fn differences(a: &[u8], b: &[u8]) -> usize
     requires short { length a.now ≤ 2 ^ 24 }
     requires long { length a.now ≡ length b.now }
