@@ -1,2 +1,2 @@
-mod EightBits
+pub mod EightBits
 mod Characters
