@@ -11,6 +11,12 @@ pub fn one_nearest()
         → (u ≡ v) × (d ≡ e) }
 {}
 
+/// From six pairs on there is a nearest list (own).
+pub fn some_nearest()
+    ensures { (pairs : List PairCosts) → 6 ≤ length pairs
+        → ((u : List ℕ) × (least : ℕ) × IsNearest pairs u least) }
+{}
+
 /// Once six pairs are held, the entries of any two states differ by at most what six pairs can cost (own).
 pub fn entries_differ()
     ensures { (memory : MemoryView) (pairs : List PairCosts) (most : ℕ) → Holds memory pairs → CostAtMost most pairs

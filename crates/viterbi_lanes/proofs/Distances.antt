@@ -10,6 +10,7 @@ use Rattle.conv_code.specs.Code.{parity_a, parity_b, parities}
 use Rattle.conv_code.proofs.Coded.{IsBit-parity_a, IsBit-parity_b}
 use Rattle.survivor_memory.specs.Costs.{price, cost, most_cost, CostAtMost}
 use Rattle.survivor_memory.specs.Nearest.{IsNearest}
+use Rattle.survivor_memory.proofs.Existing.{some_nearest}
 use Rattle.survivor_memory.proofs.Sums.{cost_from, cost_from-nil, cost_from-cons, cost_is}
 use Rattle.viterbi_lanes.specs.declared.Mark.{Mark}
 use Rattle.viterbi_lanes.specs.Marks.{by_place, cost_at, costs_of, differs, distance, IsNearestTo}
@@ -62,3 +63,9 @@ nearest_by_distance marks u least nearest =
       none_less = λ v closed. rw (distance_is_cost marks v closed.long) (by_cost.none_less v closed);
       comes_first = λ v closed same. by_cost.comes_first v closed (sym (distance_is_cost marks v closed.long) ∙ same);
     }
+
+-- from six pairs of marks on there is a nearest list
+pub some_nearest_to : (marks : List (Mark × Mark)) → 6 ≤ length marks → (u : List ℕ) × (least : ℕ) × IsNearestTo marks u least
+some_nearest_to marks some =
+    let (u, least, nearest) = some_nearest (map costs_of marks) (omega (arith, length-map marks costs_of)) in
+    (u, least, nearest_by_distance marks u least nearest)

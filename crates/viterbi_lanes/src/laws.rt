@@ -1,6 +1,6 @@
 //! What holds of distances, of nearest lists and of the marks of decisions. The functions do nothing: what each ensures
 //! is the law.
-ghost use Rattle.std.specs.Prelude.{◌≡◌, ℕ, ◌+◌, List, [], ◌∷◌, ◌++◌, length, map};
+ghost use Rattle.std.specs.Prelude.{◌≡◌, ℕ, ◌+◌, ◌≤◌, List, [], ◌∷◌, ◌++◌, length, map};
 ghost use Rattle.bit_lists.specs.Bits.{AreBits};
 ghost use Rattle.rate_table.specs.declared.CodeRate.{CodeRate};
 ghost use Rattle.survivor_memory.specs.Costs.{cost};
@@ -22,6 +22,12 @@ pub fn distance_is_cost()
 pub fn one_nearest()
     ensures { (marks : List (Mark × Mark)) (u v : List ℕ) (d e : ℕ) → IsNearestTo marks u d → IsNearestTo marks v e
         → (u ≡ v) × (d ≡ e) }
+{}
+
+/// From six pairs of marks on there is a nearest list (own).
+pub fn some_nearest()
+    ensures { (marks : List (Mark × Mark)) → 6 ≤ length marks
+        → ((u : List ℕ) × (least : ℕ) × IsNearestTo marks u least) }
 {}
 
 /// The pairs of marks of decisions are made step by step, and a list's distance to them is the number of decisions that
