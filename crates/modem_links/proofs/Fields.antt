@@ -145,10 +145,10 @@ front_names rate seed psdu is_seed =
       seven_bits = is_seed.1;
       begins = ext_get_or 0 (scrambler_sequence seed 7) (take 7 front) (sym long)
           (λ i within.
-              get_or-map-range_with_len (scrambler_bit seed) 0 7 i i 0 within (omega arith)
-              ∙ zero_changed (get_or (plain_field (row_of rate).field_bits psdu) i 0) (scrambler_bit seed i) (plain_service (row_of rate).field_bits psdu i (omega arith)) (IsBit-scrambler_bit seed i)
-              ∙ sym (front_at rate seed psdu i (omega arith))
-              ∙ sym (get_or-take 7 front i 0 within));
+          get_or-map-range_with_len (scrambler_bit seed) 0 7 i i 0 within (omega arith)
+          ∙ zero_changed (get_or (plain_field (row_of rate).field_bits psdu) i 0) (scrambler_bit seed i) (plain_service (row_of rate).field_bits psdu i (omega arith)) (IsBit-scrambler_bit seed i)
+          ∙ sym (front_at rate seed psdu i (omega arith))
+          ∙ sym (get_or-take 7 front i 0 within));
     }
 
 octet_bits : (octet : ℕ) → AreBits (bits_of_octet octet)

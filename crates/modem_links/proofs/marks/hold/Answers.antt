@@ -20,9 +20,9 @@ loop-step-preserved c = record {
   room = omega arith;
   none = λ start. absurd (omega arith);
   counted = λ _. elim (cases_lt 0 c.loop-step.step) [
-      | inl more ↦ omega (arith, c.step.ensures.counted, c.loop-step.invariant.counted more)
-      | inr start ↦ omega (arith, c.step.ensures.counted, c.loop-step.invariant.none (omega arith))
-    ];
+    | inl more ↦ omega (arith, c.step.ensures.counted, c.loop-step.invariant.counted more)
+    | inr start ↦ omega (arith, c.step.ensures.counted, c.loop-step.invariant.none (omega arith))
+  ];
 }
 
 pub returns-clause-stands : goal.returns-clause-stands
