@@ -1,6 +1,6 @@
 -- Whether words say a command can be decided, so that words and bytes have an outcome.
-use Rattle.std.proofs.Common.{◌≡◌, ◌<◌, ◌⊎◌, inl, inr, ℕ, zero, suc, Bool, true, false, List, ◌∷◌, codes, refl, sym, subst, lit<, arith}
-use Rattle.std.proofs.lemmas.Bool.{false≢true, cases_lt}
+use Rattle.std.proofs.Common.{◌≡◌, ◌<◌, ◌⊎◌, inl, inr, ℕ, zero, suc, Bool, true, false, List, [], ◌∷◌, length, codes, decimal, refl, sym, subst, lit<, arith}
+use Rattle.std.proofs.lemmas.Bool.{false≢true, cases_lt, cases_eq}
 use Rattle.std.proofs.lemmas.Slice.Eq.{slice_eq-Decides, bytes_eq-Decides}
 use Rattle.std.specs.Str.{bytes_eq}
 use Rattle.std.specs.Cmp.Lexicographic.{pointwise}
@@ -10,11 +10,14 @@ use Rattle.rate_table.specs.Table.{rate_at}
 use Rattle.modem_cli.specs.declared.words.Stage.{Stage}
 use Rattle.modem_cli.specs.declared.words.Stage.TheVariants.{Scrambled, Coded, Kept, Interleaved, Points}
 use Rattle.modem_cli.specs.declared.words.Command.{Command}
-use Rattle.modem_cli.specs.declared.words.Command.TheVariants.{Bits, Show}
-use Rattle.modem_cli.specs.declared.refusals.Refusal.TheVariants.{Words}
-use Rattle.modem_cli.specs.Grammar.{Say, rate_and_seed, stage_word}
+use Rattle.modem_cli.specs.declared.words.Command.TheVariants.{Bits, Decode, Show}
+use Rattle.modem_cli.specs.declared.refusals.Refusal.TheVariants.{Words, LongCapture, BadBit, BitCount}
+use Rattle.bit_lists.proofs.Texts.{some_text}
+use Rattle.modem_links.specs.Fields.{IsFieldOf}
+use Rattle.modem_cli.specs.Grammar.{IsLength, Say, rate_and_seed, stage_word}
+use Rattle.rate_table.specs.Table.{row_of}
 use Rattle.ofdm_scrambler.specs.Sequence.{IsSeed}
-use Rattle.modem_cli.specs.Outcome.{Outcome, Refuses, CommandOutcome, HasOutcome, of_command, of_no_command, psdu_outcome, stage_text_of}
+use Rattle.modem_cli.specs.Outcome.{Outcome, Writes, Refuses, CommandOutcome, DecodeOutcome, too_long, no_bit, wrong_count, of_field, bits_needed, most_input, HasOutcome, of_command, of_no_command, psdu_outcome, stage_text_of}
 
 -- a fact or its contrary
 abbrev Decided : Type 0 → Type 0
@@ -56,6 +59,34 @@ seed_decided n =
         | inl high ↦ inr (λ is. omega (arith, is.1))
         | inr most ↦ inl (some, most)
       ]
+    ]
+
+-- a number is one of octets or not
+length_decided : (n : ℕ) → Decided (IsLength n)
+length_decided n =
+    elim (cases_lt n 1) [
+      | inl low ↦ inr (λ is. omega (arith, is.0))
+      | inr some ↦ elim (cases_lt 4095 n) [
+        | inl high ↦ inr (λ is. omega (arith, is.1))
+        | inr most ↦ inl (some, most)
+      ]
+    ]
+
+decode_at_length : (words : List (List ℕ)) (rate : Rate) (n : ℕ) → Decided (Say words (Decode rate n))
+decode_at_length words rate n =
+    elim (length_decided n) [
+      | inr out ↦ inr (λ says. out says.in_range)
+      | inl in_range ↦ elim (same_words words (codes "decode" ∷ decimal (row_of rate).mbps ∷ decimal n ∷ [])) [
+        | inl same ↦ inl (record { in_range = in_range; words_are = same })
+        | inr other ↦ inr (λ says. other says.words_are)
+      ]
+    ]
+
+decode_at : (words : List (List ℕ)) (rate : Rate) → Decided ((n : ℕ) × Say words (Decode rate n))
+decode_at words rate =
+    elim (some_below (λ n. Say words (Decode rate n)) (decode_at_length words rate) 4096) [
+      | inl found ↦ inl found
+      | inr none ↦ inr (λ found. none found.0 (omega (arith, found.1.in_range.1)) found.1)
     ]
 
 -- a command whose one number is a seed is said or not
@@ -174,32 +205,62 @@ some_stage P decide =
 some_bits : (words : List (List ℕ)) → Decided ((rate : Rate) × ((n : ℕ) × Say words (Bits rate n)))
 some_bits words = some_rate (λ rate. (n : ℕ) × Say words (Bits rate n)) (bits_at words)
 
+some_decode : (words : List (List ℕ)) → Decided ((rate : Rate) × ((n : ℕ) × Say words (Decode rate n)))
+some_decode words = some_rate (λ rate. (n : ℕ) × Say words (Decode rate n)) (decode_at words)
+
 some_show : (words : List (List ℕ)) → Decided ((stage : Stage) × ((rate : Rate) × ((n : ℕ) × Say words (Show stage rate n))))
 some_show words =
     some_stage (λ stage. (rate : Rate) × ((n : ℕ) × Say words (Show stage rate n)))
     (λ stage. some_rate (λ rate. (n : ℕ) × Say words (Show stage rate n)) (show_at words stage))
 
 nothing_said : (words : List (List ℕ)) → (((rate : Rate) × ((n : ℕ) × Say words (Bits rate n))) → ⊥)
+    → (((rate : Rate) × ((n : ℕ) × Say words (Decode rate n))) → ⊥)
     → (((stage : Stage) × ((rate : Rate) × ((n : ℕ) × Say words (Show stage rate n)))) → ⊥) → (command : Command) → Say words command → ⊥
-nothing_said words no_bits no_show (Bits rate seed) says = no_bits (rate, (seed, says))
-nothing_said words no_bits no_show (Show stage rate seed) says = no_show (stage, (rate, (seed, says)))
+nothing_said words no_bits no_decode no_show (Bits rate seed) says = no_bits (rate, (seed, says))
+nothing_said words no_bits no_decode no_show (Decode rate length) says = no_decode (rate, (length, says))
+nothing_said words no_bits no_decode no_show (Show stage rate seed) says = no_show (stage, (rate, (seed, says)))
 
--- each command and the bytes have an outcome
-outcome_of : (command : Command) (words : List (List ℕ)) (bytes : List ℕ) → (outcome : Outcome) × CommandOutcome command words bytes outcome
-outcome_of (Bits rate seed) words bytes = (psdu_outcome (stage_text_of Kept rate seed) bytes, refl)
-outcome_of (Show stage rate seed) words bytes = (psdu_outcome (stage_text_of stage rate seed) bytes, refl)
+-- decisions have a field: what `one_field` ensures
+abbrev pub SomeField : Type 0
+SomeField =
+    (rate : Rate) (octets : ℕ) (decisions : List ℕ) → (number : ℕ) × ((psdu : List ℕ) × ((least : ℕ) × IsFieldOf rate octets decisions number psdu least))
 
-outcome_where_said : (words : List (List ℕ)) (bytes : List ℕ) (command : Command) → Say words command → (outcome : Outcome) × HasOutcome words bytes outcome
-outcome_where_said words bytes command says =
-    let of_it = outcome_of command words bytes in (of_it.0, of_command command says of_it.1)
-
--- words and bytes have an outcome
-pub some_outcome : (words : List (List ℕ)) (bytes : List ℕ) → (outcome : Outcome) × HasOutcome words bytes outcome
-some_outcome words bytes =
-    elim (some_bits words) [
-      | inl said ↦ outcome_where_said words bytes (Bits said.0 said.1.0) said.1.1
-      | inr no_bits ↦ elim (some_show words) [
-        | inl said ↦ outcome_where_said words bytes (Show said.0 said.1.0 said.1.1.0) said.1.1.1
-        | inr no_show ↦ (Refuses Words, of_no_command (nothing_said words no_bits no_show) refl)
+module _ (some : SomeField) where
+  -- `decode` has an outcome
+  some_decoded : (rate : Rate) (octets : ℕ) (bytes : List ℕ) → (outcome : Outcome) × DecodeOutcome rate octets bytes outcome
+  some_decoded rate octets bytes =
+      elim (cases_lt most_input (length bytes)) [
+        | inl long ↦ (Refuses LongCapture, too_long long refl)
+        | inr short ↦ elim (some_text bytes) [
+          | inr bad ↦ (Refuses (BadBit bad.0), no_bit bad.0 short bad.1 refl)
+          | inl read ↦ elim (cases_eq (length read.0) (bits_needed rate octets)) [
+            | inr other ↦ (Refuses (BitCount (length read.0) (bits_needed rate octets)), wrong_count read.0 short read.1.0 read.1.1 other refl)
+            | inl same ↦ let field = some rate octets read.0 in
+                (Writes field.1.0, of_field read.0 field.0 field.1.0 field.1.1.0 short read.1.0 read.1.1 same field.1.1.1 refl)
+          ]
+        ]
       ]
-    ]
+
+  -- each command and the bytes have an outcome
+  outcome_of : (command : Command) (words : List (List ℕ)) (bytes : List ℕ) → (outcome : Outcome) × CommandOutcome command words bytes outcome
+  outcome_of (Bits rate seed) words bytes = (psdu_outcome (stage_text_of Kept rate seed) bytes, refl)
+  outcome_of (Decode rate length) words bytes = some_decoded rate length bytes
+  outcome_of (Show stage rate seed) words bytes = (psdu_outcome (stage_text_of stage rate seed) bytes, refl)
+
+  outcome_where_said : (words : List (List ℕ)) (bytes : List ℕ) (command : Command) → Say words command → (outcome : Outcome) × HasOutcome words bytes outcome
+  outcome_where_said words bytes command says =
+      let of_it = outcome_of command words bytes in (of_it.0, of_command command says of_it.1)
+
+  -- words and bytes have an outcome
+  pub some_outcome : (words : List (List ℕ)) (bytes : List ℕ) → (outcome : Outcome) × HasOutcome words bytes outcome
+  some_outcome words bytes =
+      elim (some_bits words) [
+        | inl said ↦ outcome_where_said words bytes (Bits said.0 said.1.0) said.1.1
+        | inr no_bits ↦ elim (some_decode words) [
+          | inl said ↦ outcome_where_said words bytes (Decode said.0 said.1.0) said.1.1
+          | inr no_decode ↦ elim (some_show words) [
+            | inl said ↦ outcome_where_said words bytes (Show said.0 said.1.0 said.1.1.0) said.1.1.1
+            | inr no_show ↦ (Refuses Words, of_no_command (nothing_said words no_bits no_decode no_show) refl)
+          ]
+        ]
+      ]

@@ -6,3 +6,5 @@ pub mod Ranges
 pub mod Refused
 pub mod Decided
 pub mod Symbols
+pub mod Flipped
+pub mod Decoding

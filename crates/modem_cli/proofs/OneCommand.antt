@@ -7,8 +7,8 @@ use Rattle.rate_table.specs.Table.{row_of}
 use Rattle.modem_cli.specs.declared.words.Stage.{Stage}
 use Rattle.modem_cli.specs.declared.words.Stage.TheVariants.{Scrambled, Coded, Kept, Interleaved, Points}
 use Rattle.modem_cli.specs.declared.words.Command.{Command}
-use Rattle.modem_cli.specs.declared.words.Command.TheVariants.{Bits, Show}
-use Rattle.modem_cli.specs.Grammar.{Say, stage_word}
+use Rattle.modem_cli.specs.declared.words.Command.TheVariants.{Bits, Decode, Show}
+use Rattle.modem_cli.specs.Grammar.{IsLength, Say, stage_word}
 use Rattle.ofdm_scrambler.specs.Sequence.{IsSeed}
 use Rattle.modem_cli.proofs.Ranges.{mbps_small}
 
@@ -38,6 +38,10 @@ one_rate a b same =
 one_seed : (a b : ℕ) → IsSeed a → IsSeed b → decimal a ≡ decimal b → a ≡ b
 one_seed a b in_a in_b same = decimal_injective a b (omega (arith, in_a.1)) (omega (arith, in_b.1)) same
 
+-- one word writes one number of octets
+one_length : (a b : ℕ) → IsLength a → IsLength b → decimal a ≡ decimal b → a ≡ b
+one_length a b in_a in_b same = decimal_injective a b (omega (arith, in_a.1)) (omega (arith, in_b.1)) same
+
 -- the stage whose word begins with two letters of this sum
 abbrev stage_with : ℕ → Stage
 stage_with sum =
@@ -65,6 +69,21 @@ one_command words (Bits rate seed) (Bits rate' seed') says says' =
     let seeds : decimal seed ≡ decimal seed' = cc in
     let rate_is = one_rate rate rate' rates in
     let seed_is = one_seed seed seed' says.in_range says'.in_range seeds in
+    cc
+one_command words (Bits rate seed) (Decode rate' length') says says' =
+    let same = sym says.words_are ∙ says'.words_are in cc
+one_command words (Decode rate length) (Bits rate' seed') says says' =
+    let same = sym says.words_are ∙ says'.words_are in cc
+one_command words (Decode rate length) (Show stage' rate' seed') says says' =
+    let same = sym says.words_are ∙ says'.words_are in cc
+one_command words (Show stage rate seed) (Decode rate' length') says says' =
+    let same = sym says.words_are ∙ says'.words_are in cc
+one_command words (Decode rate length) (Decode rate' length') says says' =
+    let same = sym says.words_are ∙ says'.words_are in
+    let rates : decimal (row_of rate).mbps ≡ decimal (row_of rate').mbps = cc in
+    let lengths : decimal length ≡ decimal length' = cc in
+    let rate_is = one_rate rate rate' rates in
+    let length_is = one_length length length' says.in_range says'.in_range lengths in
     cc
 one_command words (Bits rate seed) (Show stage' rate' seed') says says' =
     let same = sym says.words_are ∙ says'.words_are in cc

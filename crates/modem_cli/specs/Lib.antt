@@ -3,3 +3,4 @@ pub mod Refusals
 pub mod Grammar
 pub mod Outcome
 pub mod Report
+pub mod Flips

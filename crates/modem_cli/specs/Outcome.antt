@@ -1,19 +1,23 @@
 -- What words and the bytes of the input come to: bytes that are written, or a refusal (own).
-use Rattle.std.specs.Prelude.{ℕ, ◌+◌, ◌≡◌, ◌⊎◌, List, length, nat_lt, ◌==◌, if◌then◌else◌, Option, IfSome}
-use Rattle.bit_lists.specs.Text.{text_of_bits}
+use Rattle.std.specs.Prelude.{ℕ, ◌+◌, ◌*◌, ◌≡◌, ◌≢◌, ◌<◌, ◌≤◌, ◌⊎◌, List, length, nat_lt, ◌==◌, if◌then◌else◌, Option, IfSome}
+use Rattle.bit_lists.specs.Bits.{AreBits}
+use Rattle.bit_lists.specs.Text.{IsBadPlace, IsTextOf, text_of_bits}
 use Rattle.rate_table.specs.declared.Rate.{Rate}
+use Rattle.rate_table.specs.Symbols.{symbol_count}
+use Rattle.rate_table.specs.Table.{row_of}
+use Rattle.modem_links.specs.Fields.{IsFieldOf}
 use Rattle.data_field.specs.Field.{most_octets}
 use Rattle.data_field.specs.Stages.{field_at, code_at, kept_at, interleaved_at}
 use Rattle.symbol_builder.specs.Points.{points_at}
 use Rattle.modem_cli.specs.Pairs.{text_of_pairs}
 use Rattle.modem_cli.specs.declared.refusals.Refusal.{Refusal}
-use Rattle.modem_cli.specs.declared.refusals.Refusal.TheVariants.{Words, EmptyPsdu, LongPsdu}
+use Rattle.modem_cli.specs.declared.refusals.Refusal.TheVariants.{Words, EmptyPsdu, LongPsdu, LongCapture, BadBit, BitCount}
 use Rattle.modem_cli.specs.declared.refusals.Status.{Status}
 use Rattle.modem_cli.specs.declared.refusals.Status.TheVariants as status
 use Rattle.modem_cli.specs.declared.words.Stage.{Stage}
 use Rattle.modem_cli.specs.declared.words.Stage.TheVariants.{Scrambled, Coded, Kept, Interleaved, Points}
 use Rattle.modem_cli.specs.declared.words.Command.{Command}
-use Rattle.modem_cli.specs.declared.words.Command.TheVariants.{Bits, Show}
+use Rattle.modem_cli.specs.declared.words.Command.TheVariants.{Bits, Decode, Show}
 use Rattle.modem_cli.specs.Grammar.{Say, SayNothing}
 use Rattle.modem_cli.specs.Refusals.{status_of}
 
@@ -35,9 +39,29 @@ psdu_outcome answer bytes =
     if length bytes == 0 then Refuses EmptyPsdu
     else (if nat_lt most_octets (length bytes) then Refuses LongPsdu else Writes (answer bytes))
 
+-- the most bytes of an input that is no PSDU
+abbrev pub most_input : ℕ
+most_input = 67108864
+
+-- how many bits `decode` needs: N_SYM * N_CBPS
+abbrev pub bits_needed : Rate → ℕ → ℕ
+bits_needed rate octets = symbol_count (row_of rate).field_bits octets * (row_of rate).coded_bits
+
+-- the outcome of `decode`, in the order of its refusals: the input is too long; a place of the text holds no bit; it has
+-- another number of bits than is needed; else the PSDU of the field of the bits is written
+pub data DecodeOutcome (rate : Rate) (octets : ℕ) (bytes : List ℕ) (outcome : Outcome) : Type 0 where
+  too_long : most_input < length bytes → outcome ≡ Refuses LongCapture → DecodeOutcome rate octets bytes outcome
+  no_bit : (at : ℕ) → length bytes ≤ most_input → IsBadPlace bytes at → outcome ≡ Refuses (BadBit at) → DecodeOutcome rate octets bytes outcome
+  wrong_count : (bits : List ℕ) → length bytes ≤ most_input → AreBits bits → IsTextOf bytes bits → length bits ≢ bits_needed rate octets
+      → outcome ≡ Refuses (BitCount (length bits) (bits_needed rate octets)) → DecodeOutcome rate octets bytes outcome
+  of_field : (bits : List ℕ) (number : ℕ) (psdu : List ℕ) (least : ℕ) → length bytes ≤ most_input → AreBits bits → IsTextOf bytes bits
+      → length bits ≡ bits_needed rate octets → IsFieldOf rate octets bits number psdu least → outcome ≡ Writes psdu
+      → DecodeOutcome rate octets bytes outcome
+
 -- the outcome of a command, its words and the bytes of the input
 abbrev pub CommandOutcome : Command → List (List ℕ) → List ℕ → Outcome → Type 0
 CommandOutcome (Bits rate seed) words bytes outcome = outcome ≡ psdu_outcome (stage_text_of Kept rate seed) bytes
+CommandOutcome (Decode rate length) words bytes outcome = DecodeOutcome rate length bytes outcome
 CommandOutcome (Show stage rate seed) words bytes outcome = outcome ≡ psdu_outcome (stage_text_of stage rate seed) bytes
 
 -- words and the bytes of the input have an outcome: that of the command which the words say, or `Words`
@@ -60,10 +84,12 @@ AreRefused words = (refusal : Refusal) × RefusesWords words refusal
 -- the most bytes of input that a command accepts, and the most that it takes
 abbrev pub most_accepted : Command → ℕ
 most_accepted (Bits rate seed) = most_octets
+most_accepted (Decode rate length) = most_input
 most_accepted (Show stage rate seed) = most_octets
 
 abbrev pub most_taken : Command → ℕ
 most_taken (Bits rate seed) = most_octets + 1
+most_taken (Decode rate length) = most_input + 1
 most_taken (Show stage rate seed) = most_octets + 1
 
 -- the statuses that may follow an outcome: its own, a fault of a port, or want of memory
@@ -75,4 +101,5 @@ MayFollow (Refuses refusal) ended = (ended ≡ status_of refusal) ⊎ (ended ≡
 -- a command reads its input to the end
 abbrev pub ReadsInput : Command → Type 0
 ReadsInput (Bits rate seed) = Unit {0}
+ReadsInput (Decode rate length) = Unit {0}
 ReadsInput (Show stage rate seed) = Unit {0}

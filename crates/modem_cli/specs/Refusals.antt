@@ -1,7 +1,7 @@
 -- Refusals, statuses and report lines (own).
-use Rattle.std.specs.Prelude.{ℕ, List, [], ◌∷◌, ◌++◌, codes}
+use Rattle.std.specs.Prelude.{ℕ, List, [], ◌∷◌, ◌++◌, codes, decimal}
 use Rattle.modem_cli.specs.declared.refusals.Refusal.{Refusal}
-use Rattle.modem_cli.specs.declared.refusals.Refusal.TheVariants.{Words, EmptyPsdu, LongPsdu, ReadFault, WriteFault, NoMemory}
+use Rattle.modem_cli.specs.declared.refusals.Refusal.TheVariants.{Words, EmptyPsdu, LongPsdu, LongCapture, BadBit, BitCount, ReadFault, WriteFault, NoMemory}
 use Rattle.modem_cli.specs.declared.refusals.Status.{Status}
 use Rattle.modem_cli.specs.declared.refusals.Status.TheVariants as status
 
@@ -21,6 +21,9 @@ abbrev pub status_of : Refusal → Status
 status_of Words = status.BadWords
 status_of EmptyPsdu = status.BadInput
 status_of LongPsdu = status.BadInput
+status_of LongCapture = status.BadInput
+status_of (BadBit at) = status.BadInput
+status_of (BitCount have need) = status.BadInput
 status_of ReadFault = status.ReadFault
 status_of WriteFault = status.WriteFault
 status_of NoMemory = status.NoMemory
@@ -30,6 +33,9 @@ abbrev pub report_of : Refusal → List ℕ
 report_of Words = codes "error 1: words"
 report_of EmptyPsdu = codes "error 2: empty psdu"
 report_of LongPsdu = codes "error 3: psdu over 4095 octets"
+report_of LongCapture = codes "error 5: input over 67108864 bytes"
+report_of (BadBit at) = codes "error 6: no bit at " ++ decimal at
+report_of (BitCount have need) = codes "error 7: " ++ decimal have ++ codes " bits, need " ++ decimal need
 report_of ReadFault = codes "error 10: read fault"
 report_of WriteFault = codes "error 11: write fault"
 report_of NoMemory = codes "error 12: no memory"

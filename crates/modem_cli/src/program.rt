@@ -1,18 +1,24 @@
 //! One run of the program, over any ports.
-ghost use Rattle.std.specs.Prelude.{◌≡◌, ◌≢◌, ◌↔◌, ◌+◌, ◌≤◌, ◌⊎◌, ℕ, List, length, IfOk, IfErr, IfSome, OnOk, IsErrOf};
+ghost use Rattle.std.specs.Prelude.{◌≡◌, ◌≢◌, ◌↔◌, ◌+◌, ◌<◌, ◌≤◌, ◌⊎◌, ℕ, List, length, IfOk, IfErr, IfSome, OnOk, IsErrOf};
 ghost use Rattle.modem_ports.specs.Counts.{Rose};
 ghost use Rattle.modem_ports.specs.Told.{GivesAtMost, GivesExactly, IsAtEnd};
+ghost use Rattle.bit_lists.specs.Bits.{AreBits};
+ghost use Rattle.bit_lists.specs.Text.{IsBadPlace, IsTextOf};
 ghost use Rattle.data_field.specs.Field.{most_octets};
+ghost use Rattle.modem_cli.specs.Flips.{IsFlippedText, IsWrittenUnlessNoMemory};
 ghost use Rattle.modem_cli.specs.declared.words.Command.{Command};
 ghost use Rattle.modem_cli.specs.declared.refusals.Refusal.{Refusal};
-ghost use Rattle.modem_cli.specs.Grammar.{IsInRange, Say, SayNothing, texts_of};
-ghost use Rattle.modem_cli.specs.Outcome.{Writes, Refuses, CommandOutcome, HasOutcome, IsOutcome, AreRefused, MayFollow, Outcome, ReadsInput, most_accepted, most_taken, psdu_outcome, stage_text_of};
+ghost use Rattle.modem_cli.specs.Grammar.{IsInRange, IsLength, Say, SayNothing, texts_of};
+ghost use Rattle.modem_cli.specs.Outcome.{Writes, Refuses, CommandOutcome, DecodeOutcome, HasOutcome, IsOutcome, AreRefused, MayFollow, Outcome, ReadsInput, most_accepted, most_input, most_taken, psdu_outcome, stage_text_of};
 ghost use Rattle.modem_cli.specs.Refusals.{status_of};
 ghost use Rattle.modem_cli.specs.Report.{IsDecided, IsReported, TakesAnswer, TakesAnswerPrefix, TakesReport};
 
 use crate::refusals::{Refusal, Status, line_of};
 use crate::stages::stage_text;
 use crate::words::{Command, Stage, read_words};
+use bit_lists::{TextFault, read_text};
+use modem_links::decode_field;
+use modem_links::laws::{few_flips, one_field};
 use modem_ports::{ReadAllFault, Sink, Source, Steps, read_all, write_all};
 use ofdm_scrambler::Seed;
 use rate_table::Rate;
@@ -21,9 +27,12 @@ use std::alloc::Global;
 /// The most octets of a PSDU.
 const MOST_OCTETS: usize = 4095;
 
+/// The most bytes of an input that is no PSDU.
+const MOST_INPUT: usize = 67_108_864;
+
 /// One run (own): the words are those of the command line without the program's name, `source` is read where the
 /// command reads its input, `out` takes the command's bytes and `report` the line of a refusal. `steps` counts the
-/// steps of receiving, and no command that there is takes any. It has no condition.
+/// steps of the trellis. It has no condition.
 ///
 /// The words are judged first, and the source isn't touched where they are refused (`BadWords`). Then the input is
 /// read: `ReadFault` at a read that fails, `BadInput` at the byte that passes the limit or for an empty PSDU. `out`
@@ -34,7 +43,7 @@ pub fn run<S: Source, K: Sink, E: Sink>(
     source: &mut S,
     out: &mut K,
     report: &mut E,
-    _steps: &mut Steps,
+    steps: &mut Steps,
 ) -> Status
     // What is written: with `Ok` all bytes of the outcome, with `WriteFault` a prefix of them, else nothing.
     ensures written { result ≡ Status.Ok
@@ -56,6 +65,9 @@ pub fn run<S: Source, K: Sink, E: Sink>(
     ensures read_to_limit { result ≡ Status.BadInput → IfSome (S.left source.old) (λ bytes.
         HasOutcome (texts_of words.now) bytes (Refuses Refusal.LongPsdu)
         → GivesExactly (most_octets + 1) (S.left source.old) (S.left source.new)) }
+    ensures read_to_input_limit { result ≡ Status.BadInput → IfSome (S.left source.old) (λ bytes.
+        HasOutcome (texts_of words.now) bytes (Refuses Refusal.LongCapture)
+        → GivesExactly (most_input + 1) (S.left source.old) (S.left source.new)) }
     ensures source_untouched { result ≡ Status.BadWords → source.new ≡ source.old }
 
     // When each status comes.
@@ -77,12 +89,20 @@ pub fn run<S: Source, K: Sink, E: Sink>(
         → HasOutcome (texts_of words.now) bytes (Refuses refusal)
         → (result ≡ status_of refusal) ⊎ (result ≡ Status.NoMemory)) }
 
+    // The text of a field's kept code with few flips, which `decode` is asked to read, gives that field's PSDU.
+    ensures repaired { ¬ Rose (S.faults source.old) (S.faults source.new)
+        → ¬ Rose (K.faults out.old) (K.faults out.new)
+        → IfSome (S.left source.old) (λ bytes. (psdu : List ℕ) → IsFlippedText (texts_of words.now) bytes psdu
+        → IsWrittenUnlessNoMemory result psdu (K.taken out.old) (K.taken out.new)) }
+
     // The counts of faults never fall.
     ensures source_counted { S.faults source.old ≤ S.faults source.new }
     ensures out_counted { K.faults out.old ≤ K.faults out.new }
     ensures report_counted { E.faults report.old ≤ E.faults report.new }
 {
-    match execute(alloc, words, source, out) {
+    one_field();
+    few_flips();
+    match execute(alloc, words, source, out, steps) {
         Ok(()) => Status::Ok,
         Err(refusal) => refuse(report, refusal),
     }
@@ -106,6 +126,7 @@ fn execute<S: Source, K: Sink>(
     words: &Vec<String>,
     source: &mut S,
     out: &mut K,
+    steps: &mut Steps,
 ) -> Result<(), Refusal>
     ensures ok { OnOk result
         (TakesAnswer (texts_of words.now) (S.left source.old) (K.taken out.old) (K.taken out.new)) }
@@ -117,6 +138,8 @@ fn execute<S: Source, K: Sink>(
         → Say (texts_of words.now) command → ReadsInput command → IsAtEnd (S.left source.new) }
     ensures read_to_limit { IsErrOf result Refusal.LongPsdu
         → GivesExactly (most_octets + 1) (S.left source.old) (S.left source.new) }
+    ensures read_to_input_limit { IsErrOf result Refusal.LongCapture
+        → GivesExactly (most_input + 1) (S.left source.old) (S.left source.new) }
     ensures read_fault_within { IsErrOf result Refusal.ReadFault → (command : Command)
         → Say (texts_of words.now) command
         → GivesAtMost (most_accepted command) (S.left source.old) (S.left source.new) }
@@ -135,7 +158,7 @@ fn execute<S: Source, K: Sink>(
     let Some(command) = read_words(words) else {
         return Err(Refusal::Words);
     };
-    let answer = answer_of(alloc, command, source)?;
+    let answer = answer_of(alloc, command, source, steps)?;
     match write_all(out, &answer) {
         Ok(()) => Ok(()),
         Err(_) => Err(Refusal::WriteFault),
@@ -143,7 +166,12 @@ fn execute<S: Source, K: Sink>(
 }
 
 /// The bytes that a command writes.
-fn answer_of<S: Source>(alloc: Global, command: Command, source: &mut S) -> Result<Vec<u8>, Refusal>
+fn answer_of<S: Source>(
+    alloc: Global,
+    command: Command,
+    source: &mut S,
+    steps: &mut Steps,
+) -> Result<Vec<u8>, Refusal>
     requires { IsInRange command }
     ensures ok { IfOk result (λ answer. IfSome (S.left source.old) (λ bytes.
         (words : List (List ℕ)) → CommandOutcome command words bytes (Writes answer.items))) }
@@ -156,12 +184,15 @@ fn answer_of<S: Source>(alloc: Global, command: Command, source: &mut S) -> Resu
     ensures read_fault { IsErrOf result Refusal.ReadFault → Rose (S.faults source.old) (S.faults source.new) }
     ensures read_to_limit { IsErrOf result Refusal.LongPsdu
         → GivesExactly (most_octets + 1) (S.left source.old) (S.left source.new) }
+    ensures read_to_input_limit { IsErrOf result Refusal.LongCapture
+        → GivesExactly (most_input + 1) (S.left source.old) (S.left source.new) }
     ensures read_fault_within { IsErrOf result Refusal.ReadFault
         → GivesAtMost (most_accepted command) (S.left source.old) (S.left source.new) }
     ensures counted { S.faults source.old ≤ S.faults source.new }
 {
     match command {
         Command::Bits { rate, seed } => psdu_text(alloc, Stage::Kept, rate, seed, source),
+        Command::Decode { rate, length } => decoded(alloc, rate, length, source, steps),
         Command::Show { stage, rate, seed } => psdu_text(alloc, stage, rate, seed, source),
     }
 }
@@ -181,7 +212,8 @@ fn psdu_text<S: Source>(
     ensures outcome { IfErr result (λ refusal. IsDecided (status_of refusal)
         → IfSome (S.left source.old) (λ bytes.
         Refuses refusal ≡ psdu_outcome (stage_text_of stage rate seed) bytes)) }
-    ensures kind { IfErr result (λ refusal. (refusal ≢ Refusal.Words) × (refusal ≢ Refusal.WriteFault)) }
+    ensures kind { IfErr result (λ refusal.
+        (refusal ≢ Refusal.Words) × (refusal ≢ Refusal.LongCapture) × (refusal ≢ Refusal.WriteFault)) }
     ensures read_fault { IsErrOf result Refusal.ReadFault → Rose (S.faults source.old) (S.faults source.new) }
     ensures read_to_limit { IsErrOf result Refusal.LongPsdu
         → GivesExactly (most_octets + 1) (S.left source.old) (S.left source.new) }
@@ -203,7 +235,8 @@ fn read_psdu<S: Source>(alloc: Global, source: &mut S) -> Result<Vec<u8>, Refusa
     ensures outcome { IfErr result (λ refusal. IsDecided (status_of refusal)
         → IfSome (S.left source.old) (λ bytes.
         (answer : List ℕ → List ℕ) → Refuses refusal ≡ psdu_outcome answer bytes)) }
-    ensures kind { IfErr result (λ refusal. (refusal ≢ Refusal.Words) × (refusal ≢ Refusal.WriteFault)) }
+    ensures kind { IfErr result (λ refusal.
+        (refusal ≢ Refusal.Words) × (refusal ≢ Refusal.LongCapture) × (refusal ≢ Refusal.WriteFault)) }
     ensures read_fault { IsErrOf result Refusal.ReadFault → Rose (S.faults source.old) (S.faults source.new) }
     ensures read_to_limit { IsErrOf result Refusal.LongPsdu
         → GivesExactly (most_octets + 1) (S.left source.old) (S.left source.new) }
@@ -221,4 +254,100 @@ fn read_psdu<S: Source>(alloc: Global, source: &mut S) -> Result<Vec<u8>, Refusa
         return Err(Refusal::EmptyPsdu);
     }
     Ok(psdu)
+}
+
+/// The octets of the nearest field of a text of bits, which is read.
+fn decoded<S: Source>(
+    alloc: Global,
+    rate: Rate,
+    length: u16,
+    source: &mut S,
+    steps: &mut Steps,
+) -> Result<Vec<u8>, Refusal>
+    requires { IsLength length }
+    ensures ok { IfOk result (λ octets. IfSome (S.left source.old) (λ bytes.
+        DecodeOutcome rate length bytes (Writes octets.items))) }
+    ensures end { IfOk result (λ _. IsAtEnd (S.left source.new)) }
+    ensures read_at_most { GivesAtMost (most_input + 1) (S.left source.old) (S.left source.new) }
+    ensures outcome { IfErr result (λ refusal. IsDecided (status_of refusal)
+        → IfSome (S.left source.old) (λ bytes. DecodeOutcome rate length bytes (Refuses refusal))) }
+    ensures kind { IfErr result (λ refusal.
+        (refusal ≢ Refusal.Words) × (refusal ≢ Refusal.LongPsdu) × (refusal ≢ Refusal.WriteFault)) }
+    ensures read_fault { IsErrOf result Refusal.ReadFault → Rose (S.faults source.old) (S.faults source.new) }
+    ensures read_to_input_limit { IsErrOf result Refusal.LongCapture
+        → GivesExactly (most_input + 1) (S.left source.old) (S.left source.new) }
+    ensures read_fault_within { IsErrOf result Refusal.ReadFault
+        → GivesAtMost most_input (S.left source.old) (S.left source.new) }
+    ensures counted { S.faults source.old ≤ S.faults source.new }
+{
+    let text = read_input(alloc, source)?;
+    octets_in_text(alloc, rate, length, &text, steps)
+}
+
+/// An input of at most 67108864 bytes that is no PSDU, read to its end.
+fn read_input<S: Source>(alloc: Global, source: &mut S) -> Result<Vec<u8>, Refusal>
+    ensures input { IfOk result (λ input. IfSome (S.left source.old) (λ bytes. input.items ≡ bytes)) }
+    ensures most { IfOk result (λ input. length input.items ≤ most_input) }
+    ensures end { IfOk result (λ _. IsAtEnd (S.left source.new)) }
+    ensures read_at_most { GivesAtMost (most_input + 1) (S.left source.old) (S.left source.new) }
+    ensures outcome { IfErr result (λ refusal. IsDecided (status_of refusal)
+        → IfSome (S.left source.old) (λ bytes. (refusal ≡ Refusal.LongCapture) × (most_input < length bytes))) }
+    ensures kind { IfErr result (λ refusal.
+        (refusal ≢ Refusal.Words) × (refusal ≢ Refusal.LongPsdu) × (refusal ≢ Refusal.WriteFault)) }
+    ensures read_fault { IsErrOf result Refusal.ReadFault → Rose (S.faults source.old) (S.faults source.new) }
+    ensures read_to_input_limit { IsErrOf result Refusal.LongCapture
+        → GivesExactly (most_input + 1) (S.left source.old) (S.left source.new) }
+    ensures read_fault_within { IsErrOf result Refusal.ReadFault
+        → GivesAtMost most_input (S.left source.old) (S.left source.new) }
+    ensures counted { S.faults source.old ≤ S.faults source.new }
+{
+    match read_all(alloc, source, MOST_INPUT) {
+        Ok(input) => Ok(input),
+        Err(ReadAllFault::Long) => Err(Refusal::LongCapture),
+        Err(ReadAllFault::Failed) => Err(Refusal::ReadFault),
+        Err(ReadAllFault::NoMemory(_)) => Err(Refusal::NoMemory),
+    }
+}
+
+/// The octets of the nearest field of a text of bits.
+fn octets_in_text(
+    alloc: Global,
+    rate: Rate,
+    octets: u16,
+    text: &[u8],
+    steps: &mut Steps,
+) -> Result<Vec<u8>, Refusal>
+    requires octets { IsLength octets }
+    requires most { length text.now ≤ most_input }
+    ensures ok { IfOk result (λ psdu. DecodeOutcome rate octets text.now (Writes psdu.items)) }
+    ensures outcome { IfErr result (λ refusal. IsDecided (status_of refusal)
+        → DecodeOutcome rate octets text.now (Refuses refusal)) }
+    ensures kind { IfErr result (λ refusal. refusal ≢ Refusal.NoMemory → status_of refusal ≡ Status.BadInput) }
+    ensures not_long { IfErr result (λ refusal.
+        (refusal ≢ Refusal.LongCapture) × (refusal ≢ Refusal.LongPsdu)) }
+{
+    let bits = bits_in_text(alloc, text)?;
+    let need = rate.symbols(octets) as usize * rate.coded_bits();
+    if bits.len() != need {
+        return Err(Refusal::BitCount {
+            have: bits.len() as u32,
+            need: need as u32,
+        });
+    }
+    let field = decode_field(alloc, rate, octets, &bits, steps)?;
+    Ok(field.psdu.into_vec())
+}
+
+/// The bits of a text.
+fn bits_in_text(alloc: Global, text: &[u8]) -> Result<Vec<u8>, Refusal>
+    ensures read { IfOk result (λ bits. IsTextOf text.now bits.items) }
+    ensures bits { IfOk result (λ bits. AreBits bits.items) }
+    ensures bad { IfErr result (λ refusal. (refusal ≡ Refusal.NoMemory)
+        ⊎ ((at : ℕ) × (refusal ≡ Refusal.BadBit at) × IsBadPlace text.now at)) }
+{
+    match read_text(alloc, text) {
+        Ok(bits) => Ok(bits),
+        Err(TextFault::BadBit { at }) => Err(Refusal::BadBit { at }),
+        Err(TextFault::NoMemory(_)) => Err(Refusal::NoMemory),
+    }
 }

@@ -1,8 +1,9 @@
 //! What is refused, how the program ends, and the report lines.
-ghost use Rattle.std.specs.Prelude.{◌≡◌, ◌≤◌, length};
+ghost use Rattle.std.specs.Prelude.{◌≡◌, ◌+◌, ◌≤◌, ◌++◌, decimal, length};
 ghost use Rattle.modem_cli.specs.Refusals.{code_of_status, report_line, status_of};
 ghost use Rattle.modem_cli.specs.declared.refusals.Refusal.TheVariants.{NoMemory};
 
+use itoa::Buffer;
 use std::alloc::AllocError;
 use std::marker::Model;
 
@@ -55,6 +56,12 @@ pub enum Refusal {
     EmptyPsdu,
     /// A command that reads a PSDU took a 4096th octet.
     LongPsdu,
+    /// Byte 67108865 of an input that is no PSDU was taken.
+    LongCapture,
+    /// The least place of a text of bits, counted from 0, that holds neither `0` nor `1`, the final newline excepted.
+    BadBit { at: usize },
+    /// The text has `have` bits, and the words ask for another number, `need`.
+    BitCount { have: u32, need: u32 },
     /// A read failed.
     ReadFault,
     /// A write of the answer failed.
@@ -70,7 +77,11 @@ impl Refusal {
     {
         match self {
             Refusal::Words => Status::BadWords,
-            Refusal::EmptyPsdu | Refusal::LongPsdu => Status::BadInput,
+            Refusal::EmptyPsdu
+            | Refusal::LongPsdu
+            | Refusal::LongCapture
+            | Refusal::BadBit { .. }
+            | Refusal::BitCount { .. } => Status::BadInput,
             Refusal::ReadFault => Status::ReadFault,
             Refusal::WriteFault => Status::WriteFault,
             Refusal::NoMemory => Status::NoMemory,
@@ -112,10 +123,33 @@ impl Line {
         &self.bytes[..self.len]
     }
 
+    /// The line with more bytes behind it.
+    fn with(self, text: &[u8]) -> Line
+        requires { length self + length text.now ≤ 80 }
+        ensures value { result ≡ self ++ text.now }
+        ensures len { length result ≡ length self + length text.now }
+    {
+        let Line { mut bytes, len } = self;
+        let end = len + text.len();
+        bytes[len..end].copy_from_slice(text);
+        Line { bytes, len: end }
+    }
+
+    /// The line with a number behind it, in decimal.
+    fn with_number(self, number: u64) -> Line
+        requires { length self ≤ 60 }
+        ensures value { result ≡ self ++ decimal number }
+        ensures len { length result ≤ length self + 20 }
+    {
+        let mut buffer = Buffer::new();
+        self.with(buffer.format(number).as_bytes())
+    }
+
     /// A line of these bytes.
     fn of(text: &[u8]) -> Line
         requires { length text.now ≤ 80 }
-        ensures { result ≡ text.now }
+        ensures value { result ≡ text.now }
+        ensures len { length result ≡ length text.now }
     {
         let mut bytes = [0; 80];
         let len = text.len();
@@ -132,6 +166,15 @@ pub fn line_of(refusal: &Refusal) -> Line
         Refusal::Words => Line::of(b"error 1: words\n"),
         Refusal::EmptyPsdu => Line::of(b"error 2: empty psdu\n"),
         Refusal::LongPsdu => Line::of(b"error 3: psdu over 4095 octets\n"),
+        Refusal::LongCapture => Line::of(b"error 5: input over 67108864 bytes\n"),
+        Refusal::BadBit { at } => Line::of(b"error 6: no bit at ")
+            .with_number(*at as u64)
+            .with(b"\n"),
+        Refusal::BitCount { have, need } => Line::of(b"error 7: ")
+            .with_number(u64::from(*have))
+            .with(b" bits, need ")
+            .with_number(u64::from(*need))
+            .with(b"\n"),
         Refusal::ReadFault => Line::of(b"error 10: read fault\n"),
         Refusal::WriteFault => Line::of(b"error 11: write fault\n"),
         Refusal::NoMemory => Line::of(b"error 12: no memory\n"),

@@ -66,6 +66,11 @@ fn refuses_words(rt: HostRuntime) -> Result<(), Fail> {
         "bits 6 93 1",
         "show header 6 93",
         "show kept 6",
+        "decode 6 0",
+        "decode 6 4096",
+        "decode 6 01",
+        "decode 7 1",
+        "decode 6",
         "send 7 1",
         "send 6 0",
         "send 6 128",
@@ -271,6 +276,67 @@ fn answers_or_wants_memory(rt: HostRuntime) -> Result<(), Fail> {
                 println!(rt; "{line}: status {}", status.code())?;
             }
         }
+    }
+    Ok(())
+}
+
+// The kept code of the one octet 0 at 6 Mb/s with the seed 93, with some of its characters changed.
+fn flipped(alloc: Global, places: &[usize]) -> Result<Vec<u8>, AllocError> {
+    let kept =
+        b"001110101101000100100100101000000011001010110010100100001011111010110100100101101101100010000011\n";
+    let mut text = Vec::from_slice(alloc, kept)?;
+    for place in places {
+        if let Some(character) = text.get_mut(*place) {
+            *character ^= 1;
+        }
+    }
+    Ok(text)
+}
+
+#[test]
+fn decodes_with_flips(rt: HostRuntime) -> Result<(), Fail> {
+    let rows: [(&[usize], u8); 6] = [
+        (&[], 0),
+        (&[0, 1, 2, 3], 0),
+        (&[56, 57, 58, 59], 0),
+        (
+            &[
+                52, 55, 58, 59, 60, 61, 62, 63, 64, 65, 66, 67, 68, 69, 70, 71, 72, 73, 74, 75, 76,
+                77, 78, 79, 80, 81, 82, 83, 84, 85, 86, 87, 88, 89, 90, 91, 92, 93, 94, 95,
+            ],
+            0,
+        ),
+        // Six flips lead to another field, and five to a tie.
+        (&[32, 33, 35, 36, 37, 38], 1),
+        (&[32, 33, 38, 44, 45], 1),
+    ];
+    for (places, octet) in rows {
+        let text = flipped(rt.alloc(), places)?;
+        let mut source = MemSource::open(rt.alloc(), &text, 7, &[])?;
+        let mut out = MemSink::open(rt.alloc(), ROOM, 64, &[])?;
+        let ran = run_line(rt.alloc(), "decode 6 1", &mut source, &mut out)?;
+        assert!(rt; ran.0 == Status::Ok);
+        assert!(rt; out.taken() == [octet].as_slice());
+        assert!(rt; ran.1.is_empty());
+    }
+    Ok(())
+}
+
+#[test]
+fn refuses_texts_of_bits(rt: HostRuntime) -> Result<(), Fail> {
+    let rows: [(&[u8], &[u8]); 4] = [
+        (b"01x", b"error 6: no bit at 2\n"),
+        (b"01\n", b"error 7: 2 bits, need 96\n"),
+        (b"", b"error 7: 0 bits, need 96\n"),
+        (b"\n0", b"error 6: no bit at 0\n"),
+    ];
+    for (text, report) in rows {
+        let mut source = MemSource::open(rt.alloc(), text, 64, &[])?;
+        let mut out = MemSink::open(rt.alloc(), ROOM, 64, &[])?;
+        let ran = run_line(rt.alloc(), "decode 6 1", &mut source, &mut out)?;
+        assert!(rt; ran.0 == Status::BadInput);
+        assert!(rt; out.taken().is_empty());
+        assert!(rt; ran.1.as_slice() == report);
     }
     Ok(())
 }

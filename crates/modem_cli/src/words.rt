@@ -1,12 +1,15 @@
 //! The words of the command line.
 ghost use Rattle.std.specs.Prelude.{◌≡◌, ◌<◌, ◌^◌, [], ◌∷◌, codes, decimal, IfSome, IfNone};
-ghost use Rattle.modem_cli.specs.Grammar.{NamesNoRate, NamesNoStage, NumbersNoSeed, Say, SayNothing, WritesNoNumber, stage_word, texts_of};
+ghost use Rattle.modem_cli.specs.Grammar.{IsLength, NamesNoRate, NamesNoStage, NumbersNoSeed, Say, SayNothing, WritesNoLength, WritesNoNumber, stage_word, texts_of};
 ghost use Rattle.ofdm_scrambler.specs.Sequence.{IsSeed};
 ghost use Rattle.rate_table.specs.Table.{row_of};
 
 use itoa::Buffer;
 use ofdm_scrambler::Seed;
 use rate_table::Rate;
+
+/// The most octets of a PSDU.
+const MOST_OCTETS: u32 = 4095;
 
 /// A stage of the transmitter, whose text `show` writes (own).
 #[derive(Clone, Copy, Debug, PartialEq, Eq)]
@@ -31,6 +34,11 @@ pub enum Command {
         rate: Rate,
         seed: Seed,
     },
+    /// `decode RATE LENGTH`
+    Decode {
+        rate: Rate,
+        length: u16,
+    },
     /// `show STAGE RATE SEED`
     Show {
         stage: Stage,
@@ -40,8 +48,8 @@ pub enum Command {
 }
 
 /// The command that the words say, without the program's name (own): `None` exactly where they say none. RATE is a
-/// number of megabits a second, 6 to 54 by the table of the rates, and SEED is from 1 to 127, both in decimal digits
-/// with no sign and no leading zero; a stage is `scrambled`, `coded`, `kept`, `interleaved` or
+/// number of megabits a second, 6 to 54 by the table of the rates, SEED is from 1 to 127 and LENGTH from 1 to 4095, all
+/// in decimal digits with no sign and no leading zero; a stage is `scrambled`, `coded`, `kept`, `interleaved` or
 /// `points`. Takes no memory.
 pub fn read_words(words: &Vec<String>) -> Option<Command>
     ensures command { IfSome result (Say (texts_of words.now)) }
@@ -49,6 +57,9 @@ pub fn read_words(words: &Vec<String>) -> Option<Command>
 {
     match words.as_slice() {
         [name, rate, seed] if name.as_str() == "bits" => read_bits(rate.as_str(), seed.as_str()),
+        [name, rate, length] if name.as_str() == "decode" => {
+            read_decode(rate.as_str(), length.as_str())
+        }
         [name, stage, rate, seed] if name.as_str() == "show" => {
             read_show(stage.as_str(), rate.as_str(), seed.as_str())
         }
@@ -64,6 +75,16 @@ fn read_bits(rate: &str, seed: &str) -> Option<Command>
     let rate = read_rate(rate)?;
     let seed = read_seed(seed)?;
     Some(Command::Bits { rate, seed })
+}
+
+/// The command `decode` with these words behind it.
+fn read_decode(rate: &str, length: &str) -> Option<Command>
+    ensures command { IfSome result (Say (codes "decode" ∷ rate.now ∷ length.now ∷ [])) }
+    ensures none { IfNone result (SayNothing (codes "decode" ∷ rate.now ∷ length.now ∷ [])) }
+{
+    let rate = read_rate(rate)?;
+    let length = read_length(length)?;
+    Some(Command::Decode { rate, length })
 }
 
 /// The command `show` with these words behind it.
@@ -92,6 +113,19 @@ fn read_seed(word: &str) -> Option<Seed>
     ensures none { IfNone result (NumbersNoSeed word.now) }
 {
     Seed::new(u8::try_from(read_number(word)?).ok()?)
+}
+
+/// The number of octets that a word writes, 1 to 4095.
+fn read_length(word: &str) -> Option<u16>
+    ensures length { IfSome result (λ length. word.now ≡ decimal length) }
+    ensures range { IfSome result IsLength }
+    ensures none { IfNone result (WritesNoLength word.now) }
+{
+    let number = read_number(word)?;
+    if number < 1 || number > MOST_OCTETS {
+        return None;
+    }
+    Some(number as u16)
 }
 
 /// The stage that a word names.
