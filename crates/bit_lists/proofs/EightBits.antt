@@ -6,10 +6,11 @@ use Rattle.std.proofs.lemmas.List.FromFn.{map-range_with_len_more, length-map-ra
 use Rattle.std.proofs.lemmas.List.{get_or-take, get_or-drop, length-take-le, length-drop}
 use Rattle.std.proofs.Math.Seq.{take-add, take-length}
 use Rattle.std.proofs.lemmas.List.Concat.{flat_map-cons, get_or-flat_map}
+use Rattle.std.proofs.lemmas.List.Elements.{All-append, All-map}
 use Rattle.std.proofs.lemmas.Grind.{flat_map-append}
 use Rattle.std.specs.List.{flat_map, range_with_len}
 use Rattle.std.specs.Int.{bit_at}
-use Rattle.bit_lists.specs.Bits.{AreBits, AreOctets, IsOctet, bits_of_octet, bits_of_octets, octet_at, octets_of_bits}
+use Rattle.bit_lists.specs.Bits.{AreBits, AreOctets, IsBit, IsOctet, bits_of_octet, bits_of_octets, octet_at, octets_of_bits}
 
 -- eight bits from a place on, with what each is worth
 pub octet_is : (bits : List ℕ) (p : ℕ) → octet_at bits p ≡ get_or bits p 0 + 2 * get_or bits (p + 1) 0 + 4 * get_or bits (p + 2) 0 + 8 * get_or bits (p + 3) 0 + 16 * get_or bits (p + 4) 0 + 32 * get_or bits (p + 5) 0 + 64 * get_or bits (p + 6) 0 + 128 * get_or bits (p + 7) 0
@@ -153,3 +154,13 @@ octet_of_part bits p n eight =
     let at7 = at 7 (lit< tt) in
     ap (λ n. octet_at (take n (drop p bits)) 0) eight
     ∙ octet_is part 0 ∙ rw (at0, at1, at2, at3, at4, at5, at6, at7) (sym (octet_is bits p))
+
+-- the bits of octets are bits
+AreBits-bits_of_octet : (octet : ℕ) → AreBits (bits_of_octet octet)
+unfolding bits_of_octet
+AreBits-bits_of_octet octet = All-map IsBit (bit_at octet) (range_with_len 0 8) (λ k d within. omega arith)
+
+pub AreBits-bits_of_octets : (octets : List ℕ) → AreBits (bits_of_octets octets)
+AreBits-bits_of_octets [] = λ k d within. absurd (omega arith)
+AreBits-bits_of_octets (octet ∷ octets) =
+    All-append IsBit (bits_of_octet octet) (bits_of_octets octets) (AreBits-bits_of_octet octet) (AreBits-bits_of_octets octets)

@@ -3,17 +3,16 @@ use Rattle.std.proofs.Common.{◌≡◌, ℕ, ◌+◌, ◌-◌, ◌*◌, ◌<◌
 use Rattle.std.proofs.lemmas.List.{ext_get_or, take_at, length-append, length-replicate, length-take, length-take-le, get_or-take, get_or-drop, get_or_append_left, get_or-append_right, get_or-append-add, get_or-replicate, length-drop}
 use Rattle.std.proofs.lemmas.List.Elements.{All-append, All-map, All-take, All-replicate}
 use Rattle.std.proofs.lemmas.List.FromFn.{length-map-range_with_len, get_or-map-range_with_len}
-use Rattle.bit_lists.specs.Bits.{AreBits, AreOctets, IsBit, bits_of_octet, bits_of_octets, exclusive_or}
-use Rattle.std.specs.Int.{bit_at}
+use Rattle.bit_lists.specs.Bits.{AreBits, AreOctets, IsBit, bits_of_octets, exclusive_or}
 use Rattle.std.specs.List.{range_with_len}
-use Rattle.bit_lists.proofs.EightBits.{length-bits_of_octets}
+use Rattle.bit_lists.proofs.EightBits.{AreBits-bits_of_octets, length-bits_of_octets}
 use Rattle.data_field.specs.Stages.{field_at, kept_at}
 use Rattle.data_field.specs.Field.{data_field, field_length, plain_field, with_tail}
 use Rattle.kept_weights.specs.Decisions.{repaired_changes}
 use Rattle.kept_weights.specs.Weights.{distance_over, kept_code}
 use Rattle.kept_weights.proofs.Fronts.{distance_over-take}
 use Rattle.ofdm_scrambler.specs.Sequence.{IsSeed, scrambled, scrambler_bit, scrambler_sequence}
-use Rattle.ofdm_scrambler.proofs.LastSeven.{AreBits-scrambled, IsBit-scrambler_bit}
+use Rattle.ofdm_scrambler.proofs.LastSeven.{IsBit-scrambler_bit}
 use Rattle.puncture_map.specs.Kept.{kept_count}
 use Rattle.puncture_map.proofs.Counts.{kept_count-rises, kept_count-symbols}
 use Rattle.rate_table.specs.declared.Rate.{Rate}
@@ -89,6 +88,10 @@ scrambled_at : (number : ℕ) (bits : List ℕ) (k : ℕ) → k < length bits �
 scrambled_at number bits k within =
     get_or-map-range_with_len (λ n. exclusive_or (get_or bits n 0) (scrambler_bit number n)) 0 (length bits) k k 0 within (omega arith)
 
+are_scrambled : (number : ℕ) (bits : List ℕ) → AreBits (scrambled number bits)
+are_scrambled number bits =
+    All-map IsBit (λ n. exclusive_or (get_or bits n 0) (scrambler_bit number n)) (range_with_len 0 (length bits)) (λ k d within. omega arith)
+
 -- the bits of a field up to the end of its tail
 abbrev pub field_front : ℕ → ℕ → List ℕ → List ℕ
 field_front field_bits seed psdu = fronted (tail_place (length psdu)) (scrambled seed (plain_field field_bits psdu))
@@ -131,7 +134,7 @@ length-front rate seed psdu =
 pub front_is_closed : (rate : Rate) (seed : ℕ) (psdu : List ℕ) → IsClosed (bits_through_tail (length psdu)) (field_front (row_of rate).field_bits seed psdu)
 front_is_closed rate seed psdu =
     let r = reaches rate seed psdu in
-    closed_front (tail_place (length psdu)) (scrambled seed (plain_field (row_of rate).field_bits psdu)) (omega (arith, r.long, r.through)) (AreBits-scrambled seed (plain_field (row_of rate).field_bits psdu))
+    closed_front (tail_place (length psdu)) (scrambled seed (plain_field (row_of rate).field_bits psdu)) (omega (arith, r.long, r.through)) (are_scrambled seed (plain_field (row_of rate).field_bits psdu))
 
 zero_changed : (a z : ℕ) → a ≡ 0 → z < 2 → z ≡ exclusive_or a z
 zero_changed a z none small = omega arith
@@ -151,14 +154,6 @@ front_names rate seed psdu is_seed =
               ∙ sym (get_or-take 7 front i 0 within));
     }
 
-octet_bits : (octet : ℕ) → AreBits (bits_of_octet octet)
-unfolding bits_of_octet
-octet_bits octet = All-map IsBit (bit_at octet) (range_with_len 0 8) (λ k d within. omega arith)
-
-octets_bits : (octets : List ℕ) → AreBits (bits_of_octets octets)
-octets_bits [] = λ k d within. absurd (omega arith)
-octets_bits (octet ∷ octets) = All-append IsBit (bits_of_octet octet) (bits_of_octets octets) (octet_bits octet) (octets_bits octets)
-
 changed_twice : (a b z : ℕ) → a ≡ b → b < 2 → b ≡ exclusive_or (exclusive_or a z) z
 changed_twice a b z same small = omega arith
 
@@ -172,7 +167,7 @@ front_has_psdu rate seed psdu =
     ext_get_or 0 (bits_of_octets psdu) (take (8 * length psdu) (drop 16 undone)) (length-bits_of_octets psdu ∙ sym count)
     (λ i within.
     let below : i < 8 * length psdu = omega (arith, length-bits_of_octets psdu) in
-    changed_twice (get_or (plain_field (row_of rate).field_bits psdu) (16 + i) 0) (get_or (bits_of_octets psdu) i 0) (scrambler_bit seed (16 + i)) (plain_psdu (row_of rate).field_bits psdu i below) (octets_bits psdu i 0 within)
+    changed_twice (get_or (plain_field (row_of rate).field_bits psdu) (16 + i) 0) (get_or (bits_of_octets psdu) i 0) (scrambler_bit seed (16 + i)) (plain_psdu (row_of rate).field_bits psdu i below) (AreBits-bits_of_octets psdu i 0 within)
     ∙ sym (ap (λ a. exclusive_or a (scrambler_bit seed (16 + i))) (front_at rate seed psdu (16 + i) (omega arith)))
     ∙ sym (scrambled_at seed front (16 + i) (omega (arith, length-front rate seed psdu)))
     ∙ sym (get_or-drop 16 undone i 0)

@@ -24,7 +24,7 @@ stood c =
 read_bits : (c : goal.After-drop-trellis-inside-2) → c.deref_mut-2.result.now ≡ c.finish-distance.new.out
 read_bits c =
     let out = c.finish-distance.new.out in
-    let long : length out ≡ c.in_ok-bits.bits.len = omega (arith, c.finish-distance.auto.out, c.deref_mut.ensures.len, c.deref_mut.ensures.value) in
+    let long : length out ≡ c.in_ok-bits.bits.len = omega (arith, c.finish-distance.auto.out, c.deref_mut.ensures.len) in
     c.deref_mut-2.ensures.value ∙ take_at out (drop (length out) c.in_ok-bits.bits.items) c.in_ok-bits.bits.len long
 
 pub returns-clause-field : goal.returns-clause-field
