@@ -1,5 +1,5 @@
 -- The place at which a text is no text of bits.
-use Rattle.std.proofs.Common.{◌≡◌, ℕ, zero, suc, ◌+◌, ◌*◌, ◌<◌, ◌≤◌, ◌⊎◌, inl, inr, List, [], ◌∷◌, ◌++◌, length, map, get_or, take, ap, sym, ◌∙◌, refl, subst, length-append, arith}
+use Rattle.std.proofs.Common.{◌≡◌, ℕ, zero, suc, ◌+◌, ◌<◌, ◌⊎◌, inl, inr, List, [], ◌∷◌, ◌++◌, length, get_or, take, ap, sym, ◌∙◌, refl, subst, length-append, arith}
 use Rattle.std.proofs.lemmas.List.{get_or-take, length-take-le, get_or_append_left, length-map, get_or-map}
 use Rattle.bit_lists.specs.Bits.{AreBits}
 use Rattle.bit_lists.specs.Text.{IsBadPlace, IsCharacter, characters_of}

@@ -11,7 +11,13 @@ use rate_table::CodeRate;
 use viterbi_lanes::{Mark, Trellis};
 
 /// Has an empty trellis hold the marks of so many steps.
-pub fn hold(trellis: &mut Trellis, rate: CodeRate, decisions: &[u8], count: usize, steps: &mut Steps)
+pub fn hold(
+    trellis: &mut Trellis,
+    rate: CodeRate,
+    decisions: &[u8],
+    count: usize,
+    steps: &mut Steps,
+)
     requires some { 1 ≤ count }
     requires few { count ≤ 32782 }
     requires empty { StandsFor trellis.old [] }

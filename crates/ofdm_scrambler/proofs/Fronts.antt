@@ -1,10 +1,10 @@
 -- The number whose sequence begins with seven bits.
-use Rattle.std.proofs.Common.{◌≡◌, ℕ, zero, suc, ◌+◌, ◌*◌, ◌/◌, ◌%◌, ◌^◌, ◌<◌, ◌≤◌, Bool, true, false, ◌&&◌, nat_eq, List, [], ◌∷◌, length, map, get_or, ap, sym, ◌∙◌, refl, arith, lit<, inl, inr}
+use Rattle.std.proofs.Common.{◌≡◌, ℕ, zero, suc, ◌+◌, ◌*◌, ◌<◌, ◌≤◌, Bool, true, false, ◌&&◌, nat_eq, List, [], ◌∷◌, length, map, get_or, ap, sym, ◌∙◌, refl, arith, lit<, inl, inr}
 use Rattle.std.proofs.lemmas.Bool.{cases_eq, eqb-true}
 use Rattle.std.proofs.lemmas.List.{ext_get_or}
 use Rattle.std.specs.List.{range_with_len}
 use Rattle.std.specs.Int.{bit_at}
-use Rattle.bit_lists.specs.Bits.{exclusive_or, IsBit, AreBits}
+use Rattle.bit_lists.specs.Bits.{exclusive_or, AreBits}
 use Rattle.ofdm_scrambler.specs.Sequence.{from_minus_seven, scrambler_sequence}
 
 -- a test passes at each place below n
@@ -90,9 +90,14 @@ front_is front long bits =
     let b3 = bits 3 (lit< tt) in
     let b4 = bits 4 (lit< tt) in
     let b5 = bits 5 (lit< tt) in
-    let b6 = bits 6 (lit< tt) in
-    (k, (omega arith, ext_get_or 0 front (seven_bits k) long
-      (λ i lt. at_seven (λ i. get_or front i 0 ≡ get_or (seven_bits k) i 0) (omega arith) (omega arith) (omega arith) (omega arith) (omega arith) (omega arith) (omega arith) i (omega arith))))
+    let b6 = bits 6 (lit< tt) in (
+      k,
+      (
+        omega arith,
+        ext_get_or 0 front (seven_bits k) long
+            (λ i lt. at_seven (λ i. get_or front i 0 ≡ get_or (seven_bits k) i 0) (omega arith) (omega arith) (omega arith) (omega arith) (omega arith) (omega arith) (omega arith) i (omega arith)),
+      ),
+    )
 
 -- the sequence of the number begins with the front
 pub begins_with : (front : List ℕ) → length front ≡ 7 → ((i : ℕ) → i < 7 → get_or front i 0 < 2) → scrambler_sequence (number_of_front front) 7 ≡ front

@@ -112,13 +112,13 @@ ends_in_zero free n measure zeros ones within less =
             let s = split free n v kind in
             elim s.last_is [
               | inl e ↦ (
-                let is : v ≡ s.front ++ 0 ∷ [] = s.is ∙ ap (λ x. s.front ++ x ∷ []) e in
-                rw is (not_after_push u s.front 0 (zeros.1.of_kind.long ∙ sym s.of_kind.long) (zeros.1.comes_first s.front s.of_kind (rw is at same)))
-              )
+                  let is : v ≡ s.front ++ 0 ∷ [] = s.is ∙ ap (λ x. s.front ++ x ∷ []) e in
+                  rw is (not_after_push u s.front 0 (zeros.1.of_kind.long ∙ sym s.of_kind.long) (zeros.1.comes_first s.front s.of_kind (rw is at same)))
+                  )
               | inr e ↦ (
-                let is : v ≡ s.front ++ 1 ∷ [] = s.is ∙ ap (λ x. s.front ++ x ∷ []) e in
-                rw is (inr (by_last u s.front (zeros.1.of_kind.long ∙ sym s.of_kind.long)))
-              )
+                  let is : v ≡ s.front ++ 1 ∷ [] = s.is ∙ ap (λ x. s.front ++ x ∷ []) e in
+                  rw is (inr (by_last u s.front (zeros.1.of_kind.long ∙ sym s.of_kind.long)))
+                  )
             ];
       },
     )
@@ -141,14 +141,14 @@ ends_in_one free n measure zeros ones within less =
             let s = split free n v kind in
             elim s.last_is [
               | inl e ↦ (
-                let is : v ≡ s.front ++ 0 ∷ [] = s.is ∙ ap (λ x. s.front ++ x ∷ []) e in
-                let here : pushed measure 0 s.front ≡ pushed measure 1 u = rw is at same in
-                absurd (omega (arith, less, here, zeros.1.none_less s.front s.of_kind))
-              )
+                  let is : v ≡ s.front ++ 0 ∷ [] = s.is ∙ ap (λ x. s.front ++ x ∷ []) e in
+                  let here : pushed measure 0 s.front ≡ pushed measure 1 u = rw is at same in
+                  absurd (omega (arith, less, here, zeros.1.none_less s.front s.of_kind))
+                  )
               | inr e ↦ (
-                let is : v ≡ s.front ++ 1 ∷ [] = s.is ∙ ap (λ x. s.front ++ x ∷ []) e in
-                rw is (not_after_push u s.front 1 (ones.1.of_kind.long ∙ sym s.of_kind.long) (ones.1.comes_first s.front s.of_kind (rw is at same)))
-              )
+                  let is : v ≡ s.front ++ 1 ∷ [] = s.is ∙ ap (λ x. s.front ++ x ∷ []) e in
+                  rw is (not_after_push u s.front 1 (ones.1.of_kind.long ∙ sym s.of_kind.long) (ones.1.comes_first s.front s.of_kind (rw is at same)))
+                  )
             ];
       },
     )
@@ -177,12 +177,12 @@ best free (suc n) measure =
     rw one_more
     (elim (cases_lt n free) [
       | inl within ↦ (
-        let ones = best free n (pushed measure 1) in
-        elim (cases_lt (pushed measure 1 ones.0) (pushed measure 0 zeros.0)) [
-          | inl less ↦ ends_in_one free n measure zeros ones within less
-          | inr least ↦ ends_in_zero free n measure zeros ones within least
-        ]
-      )
+          let ones = best free n (pushed measure 1) in
+          elim (cases_lt (pushed measure 1 ones.0) (pushed measure 0 zeros.0)) [
+            | inl less ↦ ends_in_one free n measure zeros ones within less
+            | inr least ↦ ends_in_zero free n measure zeros ones within least
+          ]
+          )
       | inr past ↦ last_zero free n measure past zeros
     ])
 
