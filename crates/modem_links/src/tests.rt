@@ -1,21 +1,92 @@
-use crate::{coded, decode_field};
+ghost use Rattle.bit_lists.specs.Bits.{AreBits, IsBit};
+
+use crate::{Field, coded, decode_field};
+use bit_lists::put_text;
 use modem_ports::Steps;
 use ofdm_scrambler::Seed;
 use rate_table::Rate;
+use std::alloc::Global;
 use std::test::Fail;
 
-// The kept code of the one octet 0 at 6 Mb/s, with the seed 93.
-#[rustfmt::skip]
-const KEPT_AT_6: [u8; 96] = [
-    0, 0, 1, 1, 1, 0, 1, 0, 1, 1, 0, 1, 0, 0, 0, 1, 0, 0, 1, 0, 0, 1, 0, 0, 1, 0, 1, 0, 0, 0, 0, 0,
-    0, 0, 1, 1, 0, 0, 1, 0, 1, 0, 1, 1, 0, 0, 1, 0, 1, 0, 0, 1, 0, 0, 0, 0, 1, 0, 1, 1, 1, 1, 1, 0,
-    1, 0, 1, 1, 0, 1, 0, 0, 1, 0, 0, 1, 0, 1, 1, 0, 1, 1, 0, 1, 1, 0, 0, 0, 1, 0, 0, 0, 0, 0, 1, 1,
-];
+// The other bit.
+fn other(bit: u8) -> u8
+    ensures { IsBit result }
+{
+    u8::from(bit == 0)
+}
 
-// A list with some of its bits changed.
-fn flipped(mut bits: [u8; 96], places: &[usize]) -> [u8; 96] {
+// The other bit at some places.
+fn flip(bits: &mut [u8], places: &[usize])
+    requires { AreBits bits.old }
+    ensures { AreBits bits.new }
+{
     for place in places {
-        bits[*place] ^= 1;
+        if *place < bits.len() {
+            bits[*place] = other(bits[*place]);
+        }
     }
-    bits
+}
+
+// The field of the kept code of the octet 0, with the seed 93, of which some bits are flipped.
+fn field_with_flips(
+    alloc: Global,
+    rate: Rate,
+    places: &[usize],
+    steps: &mut Steps,
+) -> Result<Field, Fail> {
+    let seed = Seed::new(93).ok_or("93")?;
+    let mut kept = coded(alloc, rate, seed, &[0])?;
+    flip(&mut kept, places);
+    Ok(decode_field(alloc, rate, 1, &kept, steps)?)
+}
+
+#[test]
+fn kept_code_of_an_octet(rt: HostRuntime) -> Result<(), Fail> {
+    let seed = Seed::new(93).ok_or("93")?;
+    let kept = coded(rt.alloc(), Rate::R6, seed, &[0])?;
+    let text = put_text(rt.alloc(), &kept)?;
+    assert_eq!(rt;
+        text.as_slice(),
+        b"001110101101000100100100101000000011001010110010100100001011111010110100100101101101100010000011\n".as_slice()
+    );
+    Ok(())
+}
+
+// No flips; four that the nearest field differs in from another PSDU's; five, at a tie; and four, with all decisions
+// behind the tail flipped.
+#[test]
+fn nearest_fields_at_6(rt: HostRuntime) -> Result<(), Fail> {
+    let mut steps = Steps::new();
+    let field = field_with_flips(rt.alloc(), Rate::R6, &[], &mut steps)?;
+    assert_eq!(rt; field.seed, 93);
+    assert_eq!(rt; field.psdu.as_slice(), [0].as_slice());
+    assert_eq!(rt; field.distance, 0);
+    assert_eq!(rt; steps.count(), 30);
+    let places = [32, 33, 35, 36, 37, 38];
+    let field = field_with_flips(rt.alloc(), Rate::R6, &places, &mut steps)?;
+    assert_eq!(rt; field.psdu.as_slice(), [1].as_slice());
+    assert_eq!(rt; field.distance, 4);
+    let places = [32, 33, 38, 44, 45];
+    let field = field_with_flips(rt.alloc(), Rate::R6, &places, &mut steps)?;
+    assert_eq!(rt; field.psdu.as_slice(), [1].as_slice());
+    assert_eq!(rt; field.distance, 5);
+    let places = [
+        52, 55, 58, 59, 60, 61, 62, 63, 64, 65, 66, 67, 68, 69, 70, 71, 72, 73, 74, 75, 76, 77, 78,
+        79, 80, 81, 82, 83, 84, 85, 86, 87, 88, 89, 90, 91, 92, 93, 94, 95,
+    ];
+    let field = field_with_flips(rt.alloc(), Rate::R6, &places, &mut steps)?;
+    assert_eq!(rt; field.psdu.as_slice(), [0].as_slice());
+    assert_eq!(rt; field.distance, 4);
+    assert_eq!(rt; steps.count(), 120);
+    Ok(())
+}
+
+#[test]
+fn two_flips_at_54(rt: HostRuntime) -> Result<(), Fail> {
+    let mut steps = Steps::new();
+    let field = field_with_flips(rt.alloc(), Rate::R54, &[0, 3], &mut steps)?;
+    assert_eq!(rt; field.seed, 93);
+    assert_eq!(rt; field.psdu.as_slice(), [0].as_slice());
+    assert_eq!(rt; field.distance, 2);
+    Ok(())
 }
