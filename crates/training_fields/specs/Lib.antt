@@ -1,4 +1,5 @@
-pub mod Bodies
+pub mod Signs
 pub mod Bins
-pub mod Training
+pub mod Bodies
 pub mod Loads
+pub mod Training
