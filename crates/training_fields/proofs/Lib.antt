@@ -2,3 +2,5 @@ pub mod Filled
 pub mod Parts
 pub mod Places
 pub mod Loads
+pub mod Bodies
+pub mod Fields

@@ -194,7 +194,8 @@ pub fn template() -> [Sample; 320]
 fn plain_samples(carriers: &[Cx; 64]) -> [Sample; 64]
     requires within { AreWithin 954 carriers.now }
     requires fits { FitASample carriers.now }
-    ensures { result ≡ all_times (plain_sample (entry carriers.now)) }
+    ensures samples { result ≡ all_times (plain_sample (entry carriers.now)) }
+    ensures within { AreSamplesWithin 25057 result }
 {
     let mut samples = [SILENCE; 64];
     for n in 0..64 {
@@ -224,5 +225,28 @@ fn over_2_21(sum: Cx) -> Sample
     Sample {
         i: ((sum.re + (1 << 20)) >> 21) as i16,
         q: ((sum.im + (1 << 20)) >> 21) as i16,
+    }
+}
+
+#[cfg(test)]
+mod tests {
+    use super::*;
+
+    // Places, and the samples there, in the sent samples and in the template.
+    const ROWS: [(usize, Sample); 4] = [
+        (0, Sample { i: 954, q: 954 }),
+        (17, Sample { i: -2747, q: 49 }),
+        (192, Sample { i: 3240, q: 0 }),
+        (319, Sample { i: -106, q: 2495 }),
+    ];
+
+    #[test]
+    fn samples_of_both_fields(rt: HostRuntime) {
+        let (sent, plain) = (preamble(), template());
+        for (n, sample) in ROWS {
+            assert!(rt; n < 320);
+            assert_eq!(rt; sent[n], sample);
+            assert_eq!(rt; plain[n], sample);
+        }
     }
 }
