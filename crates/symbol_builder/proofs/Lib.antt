@@ -1,2 +1,3 @@
 mod Fronts
 mod Polarities
+pub mod Bins
