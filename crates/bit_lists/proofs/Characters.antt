@@ -1,5 +1,5 @@
 -- The place at which a text is no text of bits.
-use Rattle.std.proofs.Common.{◌≡◌, ℕ, zero, suc, ◌+◌, ◌*◌, ◌<◌, ◌≤◌, ◌⊎◌, inl, inr, List, [], ◌∷◌, ◌++◌, length, map, get_or, take, ap, sym, ◌∙◌, refl, subst, length-append, arith}
+use Rattle.std.proofs.Common.{◌≡◌, ℕ, zero, suc, ◌+◌, ◌<◌, ◌⊎◌, inl, inr, List, [], ◌∷◌, ◌++◌, length, get_or, take, ap, sym, ◌∙◌, refl, subst, length-append, arith}
 use Rattle.std.proofs.lemmas.List.{get_or-take, length-take-le, get_or_append_left, length-map, get_or-map}
 use Rattle.bit_lists.specs.Bits.{AreBits}
 use Rattle.bit_lists.specs.Text.{IsBadPlace, IsCharacter, characters_of}
@@ -11,7 +11,7 @@ same_at text front at (inr longer) lt =
     (omega (arith, ap length longer ∙ length-append front (10 ∷ [])), ap (λ t. get_or t at 0) longer ∙ get_or_append_left front (10 ∷ []) 0 at lt)
 
 -- the character of a bit
-character_is : (bit : ℕ) → bit < 2 → IsCharacter (48 + bit)
+pub character_is : (bit : ℕ) → bit < 2 → IsCharacter (48 + bit)
 character_is zero lt = inl refl
 character_is (suc zero) lt = inr refl
 character_is (suc (suc n)) lt = absurd (omega arith)

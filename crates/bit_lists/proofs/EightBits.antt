@@ -1,5 +1,5 @@
 -- Octets from their bits, and back.
-use Rattle.std.proofs.Common.{◌≡◌, ℕ, zero, suc, ◌+◌, ◌*◌, ◌/◌, ◌%◌, ◌^◌, ◌<◌, ◌≤◌, Bool, true, false, ◌&&◌, nat_eq, List, [], ◌∷◌, ◌++◌, length, map, get_or, take, drop, append-nil, length-append, ap, sym, ◌∙◌, refl, arith, lit<, inl, inr}
+use Rattle.std.proofs.Common.{◌≡◌, ℕ, zero, suc, ◌+◌, ◌*◌, ◌/◌, ◌%◌, ◌<◌, ◌≤◌, Bool, true, false, ◌&&◌, nat_eq, List, [], ◌∷◌, ◌++◌, length, map, get_or, take, drop, append-nil, length-append, ap, sym, ◌∙◌, refl, arith, lit<, inl, inr}
 use Rattle.std.proofs.lemmas.Bool.{cases_eq, eqb-true}
 use Rattle.std.proofs.lemmas.List.{ext_get_or}
 use Rattle.std.proofs.lemmas.List.FromFn.{map-range_with_len_more, length-map-range_with_len, get_or-map-range_with_len}
@@ -7,9 +7,9 @@ use Rattle.std.proofs.lemmas.List.{get_or-take, get_or-drop, length-take-le, len
 use Rattle.std.proofs.Math.Seq.{take-add, take-length}
 use Rattle.std.proofs.lemmas.List.Concat.{flat_map-cons, get_or-flat_map}
 use Rattle.std.proofs.lemmas.Grind.{flat_map-append}
-use Rattle.std.specs.List.{flat_map, range_with_len}
+use Rattle.std.specs.List.{range_with_len}
 use Rattle.std.specs.Int.{bit_at}
-use Rattle.bit_lists.specs.Bits.{AreBits, AreOctets, IsOctet, bits_of_octet, bits_of_octets, octet_at, octets_of_bits}
+use Rattle.bit_lists.specs.Bits.{AreBits, AreOctets, bits_of_octet, bits_of_octets, octet_at, octets_of_bits}
 
 -- eight bits from a place on, with what each is worth
 pub octet_is : (bits : List ℕ) (p : ℕ) → octet_at bits p ≡ get_or bits p 0 + 2 * get_or bits (p + 1) 0 + 4 * get_or bits (p + 2) 0 + 8 * get_or bits (p + 3) 0 + 16 * get_or bits (p + 4) 0 + 32 * get_or bits (p + 5) 0 + 64 * get_or bits (p + 6) 0 + 128 * get_or bits (p + 7) 0

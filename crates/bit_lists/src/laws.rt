@@ -2,10 +2,12 @@
 
 ghost use Rattle.std.specs.Prelude.{◌≡◌, ◌⊎◌, ℕ, List};
 ghost use Rattle.bit_lists.specs.Bits.{AreBits};
-ghost use Rattle.bit_lists.specs.Text.{IsBadPlace, IsTextOf};
+ghost use Rattle.bit_lists.specs.Text.{IsBadPlace, IsTextOf, text_of_bits};
 
-/// A text has bits or a bad place, one of the two, and only one list of bits or one bad place (own).
+/// A text has bits or a bad place, one of the two, and only one list of bits or one bad place; what is written of bits
+/// has these bits (own).
 pub fn bits_or_a_bad_place()
+    ensures written { (bits : List ℕ) → IsTextOf (text_of_bits bits) bits }
     ensures some { (text : List ℕ) → ((bits : List ℕ) × (AreBits bits × IsTextOf text bits))
         ⊎ ((at : ℕ) × IsBadPlace text at) }
     ensures one_text { (text a b : List ℕ) → IsTextOf text a → IsTextOf text b → a ≡ b }

@@ -42,6 +42,9 @@ pub fn put_text(alloc: Global, bits: &[u8]) -> Result<Vec<u8>, AllocError>
     Ok(text)
 }
 
+// The most octets that the kernel counts at once.
+const KERNEL_LIMIT: usize = 1 << 24;
+
 /// A list of octets. Contracts see it as the list (own).
 #[derive(Drop)]
 pub struct Octets {
@@ -62,6 +65,13 @@ impl Octets {
         ensures { result ≡ items.items }
     {
         Octets { items }
+    }
+
+    /// Gives the vector back. Takes no memory.
+    pub fn into_vec(self) -> Vec<u8>
+        ensures { result.items ≡ self }
+    {
+        self.items
     }
 
     /// The octets, in order. Takes no memory.
@@ -106,13 +116,19 @@ fn octet_of(bits: &[u8]) -> u8
         + 128 * bits[7]
 }
 
-/// How many places of two equally long lists of at most 2^24 octets or bits differ (own). Takes no memory.
+/// How many places of two equally long lists of octets or bits differ (own). Takes no memory.
 pub fn distance(a: &[u8], b: &[u8]) -> usize
-    requires short { length a.now ≤ 2 ^ 24 }
-    requires long { length a.now ≡ length b.now }
-    ensures { result ≡ differences_of a.now b.now }
+    requires { length a.now ≡ length b.now }
+    ensures value { result ≡ differences_of a.now b.now }
+    ensures most { result ≤ length a.now }
 {
-    differences(a, b)
+    if a.len() <= KERNEL_LIMIT {
+        differences(a, b)
+    } else {
+        let (a, rest_of_a) = a.split_at(KERNEL_LIMIT);
+        let (b, rest_of_b) = b.split_at(KERNEL_LIMIT);
+        differences(a, b) + distance(rest_of_a, rest_of_b)
+    }
 }
 
 /// Why a text has no bits (own).
@@ -135,7 +151,8 @@ impl From<AllocError> for TextFault {
 }
 
 /// The bits of a text: characters `0` and `1`, with at most one newline, which is the last octet (own). `BadBit` comes
-/// exactly where a place holds none, and tells the least; `NoMemory` is free.
+/// exactly where a place holds neither character, a newline at the very end excepted, and tells the least such place;
+/// `NoMemory` is free.
 pub fn read_text(alloc: Global, text: &[u8]) -> Result<Vec<u8>, TextFault>
     ensures read { IfOk result (λ bits. IsTextOf text.now bits.items) }
     ensures bits { IfOk result (λ bits. AreBits bits.items) }

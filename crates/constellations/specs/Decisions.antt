@@ -31,8 +31,8 @@ decided Qpsk z m = axis_decided Qpsk z.re m ++ (axis_decided Qpsk z.im m ++ repl
 decided Qam16 z m = axis_decided Qam16 z.re m ++ (axis_decided Qam16 z.im m ++ replicate 2 0)
 decided Qam64 z m = axis_decided Qam64 z.re m ++ axis_decided Qam64 z.im m
 
--- a received axis is less than the amplitude, half the spacing of the levels, away from an axis that was sent, both seen
--- over a channel whose size has the square m
+-- a received axis is less than the amplitude, half the spacing of the levels, away from an axis that was sent, over a
+-- channel whose size has the square m
 abbrev pub IsNearAxis : Modulation → ℤ → ℤ → ℕ → Type 0
 IsNearAxis modulation sent part m = unsigned_abs (pos 1296 *ℤ part -ℤ sent *ℤ pos m) < amplitude_of modulation * m
 

@@ -44,7 +44,8 @@ pub fn point(modulation: Modulation, bits: &[u8; 6]) -> Cx
 
 /// The bits of a received point, with 0 in the entries past N_BPSC. `z` is the point times the conjugate of the
 /// channel, each component at most 2^46 in size, and `m` the square of the channel's size, from 0 to 2^47. An axis
-/// lies above threshold t where 1296 times it is at least t times `m` (own).
+/// lies above threshold t where 1296 times it is at least t times `m`; in BPSK Q plays no part, and where `m` and `z` are
+/// 0 each axis lies above every threshold (own).
 pub fn decide(modulation: Modulation, z: Cx, m: i64) -> [u8; 6]
     requires z { IsWithin (2 ^ 46) z }
     requires m_least { pos 0 ≤ℤ m }

@@ -36,14 +36,15 @@ pub fn size_of_a_turn()
 {}
 
 /// The size of a sum or a difference is at most the sum of the sizes, that of a product the product of the sizes; a
-/// component is at most the size, and the size at most the sum of two bounds on the components (own).
+/// component is at most the size. Components of at most a give a size of at most c where 2 * a^2 is at most c^2; a
+/// larger bound is a bound, too (own).
 pub fn sizes_of_pairs()
     ensures sum { (a b : ℕ) (x y : Cx) → IsOfSize a x → IsOfSize b y → IsOfSize (a + b) (plus x y) }
     ensures difference { (a b : ℕ) (x y : Cx) → IsOfSize a x → IsOfSize b y → IsOfSize (a + b) (minus x y) }
     ensures product { (a b : ℕ) (x y : Cx) → IsOfSize a x → IsOfSize b y → IsOfSize (a * b) (times x y) }
     ensures conjugate { (a : ℕ) (x : Cx) → IsOfSize a x → IsOfSize a (conjugate x) }
     ensures component { (a : ℕ) (x : Cx) → IsOfSize a x → IsWithin a x }
-    ensures components { (a : ℕ) (x : Cx) → IsWithin a x → IsOfSize (a + a) x }
+    ensures components { (a c : ℕ) (x : Cx) → 2 * (a * a) ≤ c * c → IsWithin a x → IsOfSize c x }
     ensures monotone { (a b : ℕ) (x : Cx) → a ≤ b → IsOfSize a x → IsOfSize b x }
 {}
 

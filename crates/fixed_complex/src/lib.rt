@@ -8,7 +8,8 @@ ghost use Rattle.fixed_complex.specs.Turns.{cosine_at, turn_at};
 
 pub mod laws;
 
-/// A sample: I and Q, each a signed number of 16 bits. 25057 is the largest size of a component that is sent (own).
+/// A sample: I and Q, each a signed number of 16 bits. No component that is sent is larger than
+/// 25057 in size (own).
 #[derive(Clone, Copy, Debug, PartialEq, Eq)]
 pub struct Sample {
     pub i: i16,

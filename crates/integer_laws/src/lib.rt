@@ -1,5 +1,6 @@
 //! Laws of whole numbers (own). Its functions do nothing: what each ensures is the law. Proof files of the crates above
-//! cite the lemmas in `proofs/`, and for identities of sums and products the ring law in `proofs/Ring.antt`.
+//! cite the lemmas in `proofs/`, and for identities of sums and products the ring law in `proofs/Ring.antt`: two
+//! expressions with the same normal form are equal.
 #![tactic(auto)]
 
 ghost use Rattle.std.specs.Prelude.{◌≡◌, ℕ, ◌+◌, ◌*◌, ◌<◌, ◌≤◌, ◌↔◌, ℤ, pos, ◌+ℤ◌, ◌-ℤ◌, ◌*ℤ◌, neg_ℤ, ◌≤ℤ◌, ◌<ℤ◌, unsigned_abs};
@@ -55,7 +56,8 @@ pub fn product_of_sizes()
         → sum_of_squares (k *ℤ x) (k *ℤ y) ≤ℤ pos (m * a * (m * a)) }
 {}
 
-/// Each number of a pair is at most as large as the pair, and bounds on both bound the pair (own).
+/// Each number of a pair is at most as large as the pair, and bounds on both bound the pair; a larger bound is a bound,
+/// too (own).
 pub fn size_of_a_pair()
     ensures first { (x y : ℤ) (a : ℕ) → sum_of_squares x y ≤ℤ pos (a * a) → unsigned_abs x ≤ a }
     ensures second { (x y : ℤ) (a : ℕ) → sum_of_squares x y ≤ℤ pos (a * a) → unsigned_abs y ≤ a }

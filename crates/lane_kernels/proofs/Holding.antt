@@ -1,5 +1,5 @@
 -- Sums held within 16 bits, lane by lane.
-use Rattle.std.proofs.Common.{◌≡◌, ℕ, zero, suc, ◌+◌, ◌^◌, ◌<◌, ◌≤◌, List, [], ◌∷◌, map, length, replicate, Bool, true, false, cond, leb, ℤ, pos, negsuc, neg_ℤ, ◌+ℤ◌, ◌≤ℤ◌, to_z, of_z, w32, refl, sym, ap, ◌∙◌, arith}
+use Rattle.std.proofs.Common.{◌≡◌, ℕ, zero, suc, List, [], ◌∷◌, map, length, replicate, Bool, true, false, cond, ℤ, pos, negsuc, ◌+ℤ◌, to_z, of_z, w32, refl, ap, ◌∙◌, arith}
 use Rattle.std.specs.Prelude.{FitsSigned, int_lt}
 use Rattle.std.specs.Int.{int_min}
 use Rattle.std.specs.Simd.Lanes.{zip2, Each1, Each2, sel_l, top}
@@ -54,7 +54,7 @@ held_lane s = cond (top 31 (cond (int_lt (to_z w32 (least_lane s)) (negsuc 32767
 held_lane-is : (s : ℕ) (v : ℤ) → to_z w32 s ≡ v → to_z w32 (held_lane s) ≡ held v
 held_lane-is s v is =
     let low : to_z w32 (least_lane s) ≡ int_min v (pos 32767) =
-      rw (picked (int_lt (to_z w32 s) (pos 32767)), to_z-cond (int_lt (to_z w32 s) (pos 32767)) s 32767, is) (lesser v) in
+    rw (picked (int_lt (to_z w32 s) (pos 32767)), to_z-cond (int_lt (to_z w32 s) (pos 32767)) s 32767, is) (lesser v) in
     rw (picked (int_lt (to_z w32 (least_lane s)) (negsuc 32767)), to_z-cond (int_lt (to_z w32 (least_lane s)) (negsuc 32767)) 4294934528 (least_lane s), low) refl
 
 pub held-fits : (v : ℤ) → FitsSigned w16 (held v)
@@ -84,7 +84,7 @@ casts_fit (a ∷ x) (b ∷ y) (suc k) h g e d =
     let a_fits = h 0 in
     let b_fits = g 0 in
     let here : FitsSigned w16 (to_z w32 (held_lane (sum_lane a b))) =
-      rw (held_lane-is (sum_lane a b) (a +ℤ b) (sum_lane-is a b a_fits b_fits)) (held-fits (a +ℤ b)) in
+    rw (held_lane-is (sum_lane a b) (a +ℤ b) (sum_lane-is a b a_fits b_fits)) (held-fits (a +ℤ b)) in
     (here, casts_fit x y k (λ n. h (suc n)) (λ n. g (suc n)) (omega arith) (omega arith))
 
 pub sums_held : (x y : List ℤ) (k : ℕ) → AreOf16Bits x → AreOf16Bits y → length x ≡ k → length y ≡ k → narrow (at_least (at_most (sums x y) k) k) ≡ zip2 (λ a b. held (a +ℤ b)) x y
@@ -97,7 +97,7 @@ sums_held (a ∷ x) (b ∷ y) (suc k) h g e d =
     let b_fits = g 0 in
     let rest = sums_held x y k (λ n. h (suc n)) (λ n. g (suc n)) (omega arith) (omega arith) in
     let here : to_z w16 (of_z w16 (to_z w32 (held_lane (sum_lane a b)))) ≡ held (a +ℤ b) =
-      rw (held_lane-is (sum_lane a b) (a +ℤ b) (sum_lane-is a b a_fits b_fits)) (to_z-of_z w16 (held (a +ℤ b)) (held-fits (a +ℤ b))) in
+    rw (held_lane-is (sum_lane a b) (a +ℤ b) (sum_lane-is a b a_fits b_fits)) (to_z-of_z w16 (held (a +ℤ b)) (held-fits (a +ℤ b))) in
     λ i. here i ∷ rest i
 
 -- sums of eight numbers, lane by lane

@@ -1,8 +1,8 @@
 -- Sums of products, lane by lane.
-use Rattle.std.proofs.Common.{◌≡◌, ℕ, zero, suc, ◌+◌, ◌*◌, ◌^◌, ◌<◌, ◌≤◌, List, [], ◌∷◌, map, length, ℤ, pos, ◌+ℤ◌, ◌-ℤ◌, ◌*ℤ◌, to_z, of_z, w64, refl, ap, ◌∙◌, arith}
+use Rattle.std.proofs.Common.{◌≡◌, ℕ, suc, ◌^◌, ◌<◌, ◌≤◌, List, [], ◌∷◌, map, length, ℤ, ◌+ℤ◌, ◌-ℤ◌, ◌*ℤ◌, to_z, of_z, w64, refl, ap, ◌∙◌, arith}
 use Rattle.std.specs.Prelude.{unsigned_abs, FitsSigned}
 use Rattle.std.specs.Simd.Lanes.{zip2, Each2}
-use Rattle.std.proofs.lemmas.Int.{ints, to_z-of_z, fits_signed_mul, fits_signed_from_abs, unsigned_abs-mul}
+use Rattle.std.proofs.lemmas.Int.{ints, to_z-of_z, fits_signed_from_abs, unsigned_abs-mul}
 use borrow.Rule.Simd.Lanes.{Asks2, act2}
 use borrow.Table.Row.{s_int}
 use Rattle.lane_kernels.specs.Lanes.{AreWithin, eight, number_at}
@@ -64,7 +64,7 @@ products_fit [] y h k = tt
 products_fit (a ∷ x) [] h k = tt
 products_fit (a ∷ x) (b ∷ y) h k =
     let here : FitsSigned w64 (kept a *ℤ kept b) =
-      rw (product_kept a b (h 0) (k 0)) (fits_signed_from_abs w64 (a *ℤ b) (omega (arith, product-le a b (h 0) (k 0)))) in
+    rw (product_kept a b (h 0) (k 0)) (fits_signed_from_abs w64 (a *ℤ b) (omega (arith, product-le a b (h 0) (k 0)))) in
     (here, products_fit x y (λ n. h (suc n)) (λ n. k (suc n)))
 
 pub sums_fit : (sums x y : List ℤ) → AreWithin (2 ^ 62) sums → AreWithin (2 ^ 15) x → AreWithin (2 ^ 15) y → Each2 (Asks2 (add signed) (s_int w64) (s_int w64)) (bits_of sums) (times_lanes (bits_of x) (bits_of y))
@@ -73,8 +73,8 @@ sums_fit (s ∷ sums) [] y g h k = tt
 sums_fit (s ∷ sums) (a ∷ x) [] g h k = tt
 sums_fit (s ∷ sums) (a ∷ x) (b ∷ y) g h k =
     let here : FitsSigned w64 (kept s +ℤ kept (kept a *ℤ kept b)) =
-      rw (product_kept a b (h 0) (k 0), kept-is s (2 ^ 62) (g 0) (omega arith), kept-is (a *ℤ b) (2 ^ 30) (product-le a b (h 0) (k 0)) (omega arith))
-      (fits_signed_from_abs w64 (s +ℤ a *ℤ b) (omega (arith, ints, g 0, product-le a b (h 0) (k 0)))) in
+    rw (product_kept a b (h 0) (k 0), kept-is s (2 ^ 62) (g 0) (omega arith), kept-is (a *ℤ b) (2 ^ 30) (product-le a b (h 0) (k 0)) (omega arith))
+    (fits_signed_from_abs w64 (s +ℤ a *ℤ b) (omega (arith, ints, g 0, product-le a b (h 0) (k 0)))) in
     (here, sums_fit sums x y (λ n. g (suc n)) (λ n. h (suc n)) (λ n. k (suc n)))
 
 pub sums_are : (sums x y : List ℤ) → AreWithin (2 ^ 62) sums → AreWithin (2 ^ 15) x → AreWithin (2 ^ 15) y → map (to_z w64) (zip2 (act2 (add signed) (s_int w64) (s_int w64) (s_int w64)) (bits_of sums) (times_lanes (bits_of x) (bits_of y))) ≡ zip2 ◌+ℤ◌ sums (zip2 ◌*ℤ◌ x y)
@@ -85,8 +85,8 @@ sums_are (s ∷ sums) (a ∷ x) (b ∷ y) g h k =
     let rest = sums_are sums x y (λ n. g (suc n)) (λ n. h (suc n)) (λ n. k (suc n)) in
     let fits : FitsSigned w64 (s +ℤ a *ℤ b) = fits_signed_from_abs w64 (s +ℤ a *ℤ b) (omega (arith, ints, g 0, product-le a b (h 0) (k 0))) in
     let here : kept (kept s +ℤ kept (kept a *ℤ kept b)) ≡ s +ℤ a *ℤ b =
-      rw (product_kept a b (h 0) (k 0), kept-is s (2 ^ 62) (g 0) (omega arith), kept-is (a *ℤ b) (2 ^ 30) (product-le a b (h 0) (k 0)) (omega arith))
-      (to_z-of_z w64 (s +ℤ a *ℤ b) fits) in
+    rw (product_kept a b (h 0) (k 0), kept-is s (2 ^ 62) (g 0) (omega arith), kept-is (a *ℤ b) (2 ^ 30) (product-le a b (h 0) (k 0)) (omega arith))
+    (to_z-of_z w64 (s +ℤ a *ℤ b) fits) in
     cc
 
 pub differences_fit : (sums x y : List ℤ) → AreWithin (2 ^ 62) sums → AreWithin (2 ^ 15) x → AreWithin (2 ^ 15) y → Each2 (Asks2 (sub signed) (s_int w64) (s_int w64)) (bits_of sums) (times_lanes (bits_of x) (bits_of y))
@@ -95,8 +95,8 @@ differences_fit (s ∷ sums) [] y g h k = tt
 differences_fit (s ∷ sums) (a ∷ x) [] g h k = tt
 differences_fit (s ∷ sums) (a ∷ x) (b ∷ y) g h k =
     let here : FitsSigned w64 (kept s -ℤ kept (kept a *ℤ kept b)) =
-      rw (product_kept a b (h 0) (k 0), kept-is s (2 ^ 62) (g 0) (omega arith), kept-is (a *ℤ b) (2 ^ 30) (product-le a b (h 0) (k 0)) (omega arith))
-      (fits_signed_from_abs w64 (s -ℤ a *ℤ b) (omega (arith, ints, g 0, product-le a b (h 0) (k 0)))) in
+    rw (product_kept a b (h 0) (k 0), kept-is s (2 ^ 62) (g 0) (omega arith), kept-is (a *ℤ b) (2 ^ 30) (product-le a b (h 0) (k 0)) (omega arith))
+    (fits_signed_from_abs w64 (s -ℤ a *ℤ b) (omega (arith, ints, g 0, product-le a b (h 0) (k 0)))) in
     (here, differences_fit sums x y (λ n. g (suc n)) (λ n. h (suc n)) (λ n. k (suc n)))
 
 pub differences_are : (sums x y : List ℤ) → AreWithin (2 ^ 62) sums → AreWithin (2 ^ 15) x → AreWithin (2 ^ 15) y → map (to_z w64) (zip2 (act2 (sub signed) (s_int w64) (s_int w64) (s_int w64)) (bits_of sums) (times_lanes (bits_of x) (bits_of y))) ≡ zip2 ◌-ℤ◌ sums (zip2 ◌*ℤ◌ x y)
@@ -107,8 +107,8 @@ differences_are (s ∷ sums) (a ∷ x) (b ∷ y) g h k =
     let rest = differences_are sums x y (λ n. g (suc n)) (λ n. h (suc n)) (λ n. k (suc n)) in
     let fits : FitsSigned w64 (s -ℤ a *ℤ b) = fits_signed_from_abs w64 (s -ℤ a *ℤ b) (omega (arith, ints, g 0, product-le a b (h 0) (k 0))) in
     let here : kept (kept s -ℤ kept (kept a *ℤ kept b)) ≡ s -ℤ a *ℤ b =
-      rw (product_kept a b (h 0) (k 0), kept-is s (2 ^ 62) (g 0) (omega arith), kept-is (a *ℤ b) (2 ^ 30) (product-le a b (h 0) (k 0)) (omega arith))
-      (to_z-of_z w64 (s -ℤ a *ℤ b) fits) in
+    rw (product_kept a b (h 0) (k 0), kept-is s (2 ^ 62) (g 0) (omega arith), kept-is (a *ℤ b) (2 ^ 30) (product-le a b (h 0) (k 0)) (omega arith))
+    (to_z-of_z w64 (s -ℤ a *ℤ b) fits) in
     cc
 
 -- sums and products of eight numbers, lane by lane
@@ -116,4 +116,4 @@ pub eight_lanes : (f : ℤ → ℤ → ℤ) (sums x y : List ℤ) → length sum
 eight_lanes f sums x y g h k =
     ap (λ l. zip2 f l (zip2 ◌*ℤ◌ x y)) (eight_of sums g)
     ∙ (ap (λ l. zip2 f (eight (number_at sums)) (zip2 ◌*ℤ◌ l y)) (eight_of x h)
-      ∙ ap (λ l. zip2 f (eight (number_at sums)) (zip2 ◌*ℤ◌ (eight (number_at x)) l)) (eight_of y k))
+    ∙ ap (λ l. zip2 f (eight (number_at sums)) (zip2 ◌*ℤ◌ (eight (number_at x)) l)) (eight_of y k))

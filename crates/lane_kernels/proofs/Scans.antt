@@ -1,9 +1,9 @@
 -- Scans for the first loud sample, chunk by chunk.
-use Rattle.std.proofs.Common.{◌≡◌, inl, inr, ℕ, ◌+◌, ◌-◌, ◌*◌, ◌<◌, ◌≤◌, Bool, true, false, List, length, get_or, sym, ap, ◌∙◌, arith}
+use Rattle.std.proofs.Common.{◌≡◌, inl, inr, ℕ, ◌+◌, ◌-◌, ◌<◌, ◌≤◌, true, false, List, length, arith}
 use Rattle.std.proofs.lemmas.Bool.{cases_lt}
 use Rattle.std.proofs.lemmas.List.Sums.{position_or_len_is}
 use Rattle.std.specs.List.{slice_range}
-use Rattle.std.specs.Prelude.{◌⊎◌, pos}
+use Rattle.std.specs.Prelude.{pos}
 use Rattle.fixed_complex.specs.declared.Sample.{Sample}
 use Rattle.lane_kernels.specs.Kernels.{first_loud_of, is_loud}
 use Rattle.lane_kernels.specs.Lanes.{sample_at}
@@ -13,12 +13,12 @@ use Rattle.lane_kernels.proofs.Wholes.{sample-chunk}
 pub quiet-more : (a : List Sample) (i j : ℕ) → j ≡ i + 8 → ((n : ℕ) → n < i → is_loud (sample_at a n) ≡ false) → ((n : ℕ) → n < 8 → is_loud (sample_at (slice_range a i j) n) ≡ false) → (n : ℕ) → n < j → is_loud (sample_at a n) ≡ false
 quiet-more a i j e before chunk n below =
     elim (cases_lt n i) [
-      inl here ↦ before n here
-    | inr past ↦
-        let at : i + (n - i) ≡ n = omega arith in
-        let within : n - i < 8 = omega arith in
-        let quiet = rw (sample-chunk a i j (n - i) e within) at (chunk (n - i) within) in
-        rw at at quiet
+      | inl here ↦ before n here
+      | inr past ↦
+          let at : i + (n - i) ≡ n = omega arith in
+          let within : n - i < 8 = omega arith in
+          let quiet = rw (sample-chunk a i j (n - i) e within) at (chunk (n - i) within) in
+          rw at at quiet
     ]
 
 -- the first place that isn't quiet

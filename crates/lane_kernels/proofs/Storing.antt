@@ -1,5 +1,5 @@
 -- Samples stored place by place.
-use Rattle.std.proofs.Common.{◌≡◌, inl, inr, ◌≢◌, ℕ, zero, suc, ◌+◌, ◌<◌, ◌≤◌, List, [], ◌∷◌, length, get_or, set, ℤ, pos, negsuc, ◌+ℤ◌, to_z, of_z, refl, sym, ap, ◌∙◌, arith}
+use Rattle.std.proofs.Common.{◌≡◌, inl, inr, ◌≢◌, ℕ, zero, suc, ◌+◌, ◌<◌, ◌≤◌, List, [], ◌∷◌, length, set, ℤ, pos, negsuc, ◌+ℤ◌, to_z, of_z, refl, sym, ap, ◌∙◌, arith}
 use Rattle.std.proofs.lemmas.Bool.{cases_lt}
 use Rattle.std.specs.Prelude.{FitsSigned}
 use Rattle.std.specs.Int.{saturate_signed}
@@ -28,10 +28,10 @@ sums-more from upto next old b new value e least room is h =
     record {
       before = λ n below. let apart : n ≢ upto = omega arith in other n apart ∙ h.before n below;
       within = λ n from_n below.
-        elim (cases_lt n upto) [
-          inl here ↦ let apart : n ≢ upto = omega arith in other n apart ∙ h.within n from_n here
-        | inr there ↦ let at : n ≡ upto = omega arith in rw at (get_or-set_same new upto value (record { i = pos 0; q = pos 0 }) room ∙ is)
-        ];
+          elim (cases_lt n upto) [
+            | inl here ↦ let apart : n ≢ upto = omega arith in other n apart ∙ h.within n from_n here
+            | inr there ↦ let at : n ≡ upto = omega arith in rw at (get_or-set_same new upto value (record { i = pos 0; q = pos 0 }) room ∙ is)
+          ];
       behind = λ n past. let apart : n ≢ upto = omega arith in other n apart ∙ h.behind n (omega arith);
     }
 
@@ -40,10 +40,10 @@ pub sums-join : (from mid upto : ℕ) (old b half new : List Sample) → from �
 sums-join from mid upto old b half new low high first second = record {
   before = λ n below. second.before n (omega arith) ∙ first.before n below;
   within = λ n least below.
-    elim (cases_lt n mid) [
-      inl here ↦ second.before n here ∙ first.within n least here
-    | inr there ↦ second.within n there below ∙ ap (λ s. held_sum s (sample_at b n)) (first.behind n there)
-    ];
+      elim (cases_lt n mid) [
+        | inl here ↦ second.before n here ∙ first.within n least here
+        | inr there ↦ second.within n there below ∙ ap (λ s. held_sum s (sample_at b n)) (first.behind n there)
+      ];
   behind = λ n past. second.behind n past ∙ first.behind n (omega arith);
 }
 
@@ -53,9 +53,9 @@ lane-held x y new f g x_is y_is new_is n below =
     let x_at : number_at x n ≡ f n = ap (λ l. number_at l n) x_is ∙ eight-at f n below in
     let y_at : number_at y n ≡ g n = ap (λ l. number_at l n) y_is ∙ eight-at g n below in
     let here : number_at new n ≡ held (f n +ℤ g n) =
-      ap (λ l. number_at l n) new_is
-      ∙ (eight-at (λ m. held (number_at x m +ℤ number_at y m)) n below
-        ∙ (ap (λ z. held (z +ℤ number_at y n)) x_at ∙ ap (λ z. held (f n +ℤ z)) y_at)) in
+    ap (λ l. number_at l n) new_is
+    ∙ (eight-at (λ m. held (number_at x m +ℤ number_at y m)) n below
+    ∙ (ap (λ z. held (z +ℤ number_at y n)) x_at ∙ ap (λ z. held (f n +ℤ z)) y_at)) in
     rw here (to_z-of_z w16 (held (f n +ℤ g n)) (held-fits (f n +ℤ g n)))
 
 -- samples with the same components

@@ -1,5 +1,5 @@
 -- Sums by place, and sums of lanes.
-use Rattle.std.proofs.Common.{◌≡◌, ℕ, zero, suc, ◌+◌, ◌*◌, ◌^◌, ◌<◌, ◌≤◌, List, [], ◌∷◌, length, get_or, ℤ, pos, ◌+ℤ◌, ◌-ℤ◌, ◌*ℤ◌, refl, ap, ◌∙◌, arith}
+use Rattle.std.proofs.Common.{◌≡◌, ℕ, zero, suc, ◌+◌, ◌^◌, ◌<◌, ◌≤◌, List, length, ℤ, pos, ◌+ℤ◌, ◌-ℤ◌, ◌*ℤ◌, refl, ap, arith}
 use Rattle.std.specs.Prelude.{unsigned_abs}
 use Rattle.std.proofs.lemmas.Int.{ints}
 use Rattle.lane_kernels.specs.Lanes.{AreWithin, eight, number_at, total_below, total_of}
@@ -45,12 +45,12 @@ eight-within f bound h =
 pub grown : (sums x y new : List ℤ) (bound : ℕ) → new ≡ eight (λ n. number_at sums n +ℤ number_at x n *ℤ number_at y n) → AreWithin bound sums → AreWithin (2 ^ 15) x → AreWithin (2 ^ 15) y → AreWithin (bound + 2 ^ 30) new
 grown sums x y new bound is g h k =
     rw is (eight-within (λ n. number_at sums n +ℤ number_at x n *ℤ number_at y n) (bound + 2 ^ 30)
-      (λ n _. omega (arith, ints, g n, product-le (number_at x n) (number_at y n) (h n) (k n))))
+    (λ n _. omega (arith, ints, g n, product-le (number_at x n) (number_at y n) (h n) (k n))))
 
 pub grown_less : (sums x y new : List ℤ) (bound : ℕ) → new ≡ eight (λ n. number_at sums n -ℤ number_at x n *ℤ number_at y n) → AreWithin bound sums → AreWithin (2 ^ 15) x → AreWithin (2 ^ 15) y → AreWithin (bound + 2 ^ 30) new
 grown_less sums x y new bound is g h k =
     rw is (eight-within (λ n. number_at sums n -ℤ number_at x n *ℤ number_at y n) (bound + 2 ^ 30)
-      (λ n _. omega (arith, ints, g n, product-le (number_at x n) (number_at y n) (h n) (k n))))
+    (λ n _. omega (arith, ints, g n, product-le (number_at x n) (number_at y n) (h n) (k n))))
 
 -- two products more in each lane, of what lanes hold
 pub two_more : (s r x y u v new : List ℤ) (a b c d : ℕ → ℤ) → x ≡ eight a → y ≡ eight b → u ≡ eight c → v ≡ eight d → r ≡ eight (λ n. number_at s n +ℤ number_at x n *ℤ number_at y n) → new ≡ eight (λ n. number_at r n +ℤ number_at u n *ℤ number_at v n) → new ≡ eight (λ n. number_at s n +ℤ a n *ℤ b n +ℤ c n *ℤ d n)

@@ -1,12 +1,11 @@
 -- What the sums by place are of whole lists, and what a chunk is of one.
-use Rattle.std.proofs.Common.{◌≡◌, ℕ, zero, suc, ◌+◌, ◌-◌, ◌<◌, List, [], ◌∷◌, length, take, drop, ℤ, pos, ◌+ℤ◌, refl, sym, ap, ◌∙◌, arith}
+use Rattle.std.proofs.Common.{◌≡◌, ℕ, zero, suc, ◌+◌, ◌-◌, ◌<◌, List, [], ◌∷◌, length, ℤ, pos, ◌+ℤ◌, refl, sym, ap, ◌∙◌, arith}
 use Rattle.std.specs.List.{slice_range}
 use Rattle.std.proofs.lemmas.Int.{ints}
 use Rattle.std.proofs.lemmas.Simd.{get_or-chunk}
 use Rattle.fixed_complex.specs.declared.Sample.{Sample}
-use Rattle.fixed_complex.specs.Pairs.{plus, zero_pair}
 use Rattle.lane_kernels.specs.Kernels.{dot_of, energy_of, power_of, product_of}
-use Rattle.lane_kernels.specs.Lanes.{AreWithin, eight, number_at, sample_at, total_below, total_of}
+use Rattle.lane_kernels.specs.Lanes.{AreWithin, eight, sample_at, total_below, total_of}
 use Rattle.lane_kernels.proofs.Totals.{eight-within}
 
 -- no chunk yet

@@ -1,9 +1,9 @@
 -- Numbers of 16 bits in lanes of 16 and of 64 bits.
-use Rattle.std.proofs.Common.{◌≡◌, ℕ, zero, suc, ◌*◌, ◌%◌, ◌+◌, ◌^◌, ◌<◌, ◌≤◌, List, [], ◌∷◌, map, length, Bool, true, false, cond, not, leb, eqb, replicate, ℤ, pos, negsuc, neg_ℤ, ◌≤ℤ◌, to_z, of_z, w64, refl, sym, ap, ◌∙◌, arith}
+use Rattle.std.proofs.Common.{◌≡◌, ℕ, zero, suc, ◌*◌, ◌%◌, ◌+◌, ◌^◌, ◌≤◌, List, [], ◌∷◌, map, length, Bool, true, false, cond, not, leb, eqb, replicate, ℤ, pos, negsuc, neg_ℤ, ◌≤ℤ◌, to_z, of_z, w64, refl, sym, ap, ◌∙◌, arith}
 use Rattle.std.specs.Prelude.{FitsSigned, int_lt, nat_lt, unsigned_abs}
 use Rattle.std.specs.Simd.Lanes.{zip2, mask_l, top}
-use Rattle.std.proofs.lemmas.Int.{ints, to_z-of_z}
-use Rattle.std.proofs.lemmas.Simd.{mask_l-mod, length-zip2}
+use Rattle.std.proofs.lemmas.Int.{ints}
+use Rattle.std.proofs.lemmas.Simd.{mask_l-mod}
 use Rattle.std.proofs.lemmas.Bool.Decides.{nat_tests}
 use borrow.Rule.Simd.Lanes.{act1, act2}
 use borrow.Table.Row.{s_int}

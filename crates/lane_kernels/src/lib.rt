@@ -10,8 +10,8 @@ ghost use Rattle.lane_kernels.specs.Lanes.{AreOf16Bits, AreWithin, HoldsSums, ei
 use fixed_complex::{Cx, Sample, add, conj, mul};
 use std::simd::prelude::*;
 
-/// The sum of the products of `a`'s samples with the conjugates of `b`'s, place by place. The slices are equally long
-/// (own). A part of a product is at most 2^31 in size, so the sum of 2^24 of them fits.
+/// The sum of the products of `a`'s samples with the conjugates of `b`'s, place by place. The slices are equally long,
+/// at most 2^24 samples (own). A part of a product is at most 2^31 in size, so the sum of 2^24 of them fits.
 pub fn dot(a: &[Sample], b: &[Sample]) -> Cx
     requires short { length a.now ≤ 2 ^ 24 }
     requires long { length a.now ≡ length b.now }
@@ -27,7 +27,8 @@ pub fn dot(a: &[Sample], b: &[Sample]) -> Cx
     dot
 }
 
-/// The sum of the squares of the samples' sizes, `i*i + q*q` (own). One is at most 2^31, so the sum of 2^24 of them fits.
+/// The sum of the squares of the sizes of at most 2^24 samples, `i*i + q*q` each (own). One is at most 2^31, so the sum of 2^24 of them
+/// fits.
 pub fn energy(a: &[Sample]) -> i64
     requires { length a.now ≤ 2 ^ 24 }
     ensures { result ≡ energy_of a.now }
@@ -39,7 +40,8 @@ pub fn energy(a: &[Sample]) -> i64
     energy
 }
 
-/// The least place of a loud sample, one with a component larger than 256 in size, or the length (own).
+/// The least place of a loud sample, one with a component larger than 256 in size, or the length. There are at most
+/// 2^24 samples (own).
 pub fn first_loud(a: &[Sample]) -> usize
     requires { length a.now ≤ 2 ^ 24 }
     ensures { result ≡ first_loud_of a.now }
@@ -52,7 +54,8 @@ pub fn first_loud(a: &[Sample]) -> usize
     a.len()
 }
 
-/// Adds `b`'s samples to `a`'s, each component held within -32768 to 32767. The slices are equally long (own).
+/// Adds `b`'s samples to `a`'s, each component held within -32768 to 32767. The slices are equally long, at most 2^24
+/// samples (own).
 pub fn add_saturating(a: &mut [Sample], b: &[Sample])
     requires short { length a.old ≤ 2 ^ 24 }
     requires long { length a.old ≡ length b.now }
@@ -65,7 +68,8 @@ pub fn add_saturating(a: &mut [Sample], b: &[Sample])
     add_rest(a, b, 8 * whole);
 }
 
-/// How many places of two equally long slices differ (own).
+/// How many places of two equally long slices of at most 2^24 bytes differ (own). The count is at most the length, so
+/// it fits.
 pub fn differences(a: &[u8], b: &[u8]) -> usize
     requires short { length a.now ≤ 2 ^ 24 }
     requires long { length a.now ≡ length b.now }
@@ -95,6 +99,7 @@ fn quiet_chunks(a: &[Sample]) -> usize
 }
 
 // Whether one of eight samples is loud.
+#[inline(always)]
 fn any_loud(a: &[Sample]) -> bool
     requires { length a.now ≡ 8 }
     ensures { result ≡ false → (n : ℕ) → n < 8 → is_loud (sample_at a.now n) ≡ false }
@@ -103,6 +108,7 @@ fn any_loud(a: &[Sample]) -> bool
 }
 
 // Whether one of eight numbers is larger than 256 in size.
+#[inline(always)]
 fn any_large(x: [i16; 8]) -> bool
     requires { AreOf16Bits x }
     ensures { result ≡ false → (n : ℕ) → nat_lt 256 (unsigned_abs (number_at x n)) ≡ false }
@@ -136,6 +142,7 @@ fn held_sum(a: Sample, b: Sample) -> Sample
 }
 
 // Adds eight samples from a place on.
+#[inline(always)]
 fn add_eight(a: &mut [Sample], b: &[Sample], at: usize)
     requires within { at + 8 ≤ length a.old }
     requires long { length a.old ≡ length b.now }
@@ -150,14 +157,22 @@ fn add_eight(a: &mut [Sample], b: &[Sample], at: usize)
 }
 
 // The sums of eight numbers, each held within 16 bits.
+#[inline(always)]
 fn add_lanes(x: [i16; 8], y: [i16; 8]) -> [i16; 8]
     requires x { AreOf16Bits x }
     requires y { AreOf16Bits y }
     ensures { result ≡ eight (λ n. held (number_at x n +ℤ number_at y n)) }
 {
-    let (x, y) = (i16x8::from_array(x).cast::<i32>(), i16x8::from_array(y).cast::<i32>());
+    let (x, y) = (
+        i16x8::from_array(x).cast::<i32>(),
+        i16x8::from_array(y).cast::<i32>(),
+    );
     let (least, most) = (i32x8::splat(-32768), i32x8::splat(32767));
-    x.strict_add(y).simd_min(most).simd_max(least).cast::<i16>().to_array()
+    x.strict_add(y)
+        .simd_min(most)
+        .simd_max(least)
+        .cast::<i16>()
+        .to_array()
 }
 
 // Whether a sample is loud.
@@ -183,6 +198,7 @@ fn lane_differences(a: &[u8], b: &[u8]) -> usize
 }
 
 // How many of sixteen places differ.
+#[inline(always)]
 fn differing(a: &[u8], b: &[u8]) -> u32
     requires a { length a.now ≡ 16 }
     requires b { length b.now ≡ 16 }
@@ -275,6 +291,7 @@ fn total(sums: &[i64; 8]) -> i64
 }
 
 // Eight sums, each with the real part of a product more.
+#[inline(always)]
 fn add_real_parts(sums: [i64; 8], a: &[Sample], b: &[Sample]) -> [i64; 8]
     requires sums { AreWithin (2 ^ 61) sums }
     requires a { length a.now ≡ 8 }
@@ -288,6 +305,7 @@ fn add_real_parts(sums: [i64; 8], a: &[Sample], b: &[Sample]) -> [i64; 8]
 }
 
 // Eight sums, each with the imaginary part of a product more.
+#[inline(always)]
 fn add_imaginary_parts(sums: [i64; 8], a: &[Sample], b: &[Sample]) -> [i64; 8]
     requires sums { AreWithin (2 ^ 61) sums }
     requires a { length a.now ≡ 8 }
@@ -301,6 +319,7 @@ fn add_imaginary_parts(sums: [i64; 8], a: &[Sample], b: &[Sample]) -> [i64; 8]
 }
 
 // Eight sums, each with the square of a sample's size more.
+#[inline(always)]
 fn add_powers(sums: [i64; 8], a: &[Sample]) -> [i64; 8]
     requires sums { AreWithin (2 ^ 61) sums }
     requires a { length a.now ≡ 8 }
@@ -313,6 +332,7 @@ fn add_powers(sums: [i64; 8], a: &[Sample]) -> [i64; 8]
 }
 
 // The I components of eight samples, as wide as sums of products need.
+#[inline(always)]
 fn in_phase(a: &[Sample]) -> [i64; 8]
     requires { length a.now ≡ 8 }
     ensures value { result ≡ eight (λ n. (sample_at a.now n).i) }
@@ -322,6 +342,7 @@ fn in_phase(a: &[Sample]) -> [i64; 8]
 }
 
 // The Q components of eight samples, as wide as sums of products need.
+#[inline(always)]
 fn quadrature(a: &[Sample]) -> [i64; 8]
     requires { length a.now ≡ 8 }
     ensures value { result ≡ eight (λ n. (sample_at a.now n).q) }
@@ -331,24 +352,31 @@ fn quadrature(a: &[Sample]) -> [i64; 8]
 }
 
 // The I components of eight samples.
+#[inline(always)]
 fn i_components(a: &[Sample]) -> [i16; 8]
     requires { length a.now ≡ 8 }
     ensures value { result ≡ eight (λ n. (sample_at a.now n).i) }
     ensures of_16_bits { AreOf16Bits result }
 {
-    [a[0].i, a[1].i, a[2].i, a[3].i, a[4].i, a[5].i, a[6].i, a[7].i]
+    [
+        a[0].i, a[1].i, a[2].i, a[3].i, a[4].i, a[5].i, a[6].i, a[7].i,
+    ]
 }
 
 // The Q components of eight samples.
+#[inline(always)]
 fn q_components(a: &[Sample]) -> [i16; 8]
     requires { length a.now ≡ 8 }
     ensures value { result ≡ eight (λ n. (sample_at a.now n).q) }
     ensures of_16_bits { AreOf16Bits result }
 {
-    [a[0].q, a[1].q, a[2].q, a[3].q, a[4].q, a[5].q, a[6].q, a[7].q]
+    [
+        a[0].q, a[1].q, a[2].q, a[3].q, a[4].q, a[5].q, a[6].q, a[7].q,
+    ]
 }
 
 // Eight numbers, wider.
+#[inline(always)]
 fn widened(x: [i16; 8]) -> [i64; 8]
     requires { AreOf16Bits x }
     ensures value { result ≡ x }
@@ -358,6 +386,7 @@ fn widened(x: [i16; 8]) -> [i64; 8]
 }
 
 // Eight sums, each with a product more.
+#[inline(always)]
 fn add_products(sums: [i64; 8], x: [i64; 8], y: [i64; 8]) -> [i64; 8]
     requires sums { AreWithin (2 ^ 62) sums }
     requires x { AreWithin (2 ^ 15) x }
@@ -369,6 +398,7 @@ fn add_products(sums: [i64; 8], x: [i64; 8], y: [i64; 8]) -> [i64; 8]
 }
 
 // Eight sums, each with a product less.
+#[inline(always)]
 fn subtract_products(sums: [i64; 8], x: [i64; 8], y: [i64; 8]) -> [i64; 8]
     requires sums { AreWithin (2 ^ 62) sums }
     requires x { AreWithin (2 ^ 15) x }

@@ -1,7 +1,6 @@
 -- The scrambler sequence z of a number from 0 to 127 (IEEE Std 802.11-2012, 18.3.5.5; that a number names the seven
 -- bits is own). It is defined over all places from -7 on.
-use Rattle.std.specs.Prelude.{ℕ, ◌+◌, ◌≤◌, List, map, length, slice_index}
-use Rattle.std.proofs.Common.{zero, suc}
+use Rattle.std.specs.Prelude.{ℕ, zero, suc, ◌+◌, ◌≤◌, List, map, length, slice_index}
 use Rattle.std.specs.List.{range_with_len}
 use Rattle.bit_lists.specs.Bits.{exclusive_or}
 use Rattle.std.specs.Int.{bit_at}

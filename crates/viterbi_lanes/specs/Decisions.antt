@@ -12,7 +12,7 @@ use Rattle.viterbi_lanes.specs.declared.Mark.{Mark}
 use Rattle.viterbi_lanes.specs.declared.Mark.TheVariants.{Zero, One, Absent}
 
 -- the mark at a place of the code: a kept place has the decision before which as many decisions stand as kept places before
--- the place
+-- the place; behind their end decisions are read as 0, and whoever cites this has enough of them
 abbrev pub mark_at : CodeRate → List ℕ → ℕ → Mark
 mark_at rate decisions place =
     if is_kept rate place

@@ -1,8 +1,9 @@
 //! What holds of distances, of nearest lists and of the marks of decisions. The functions do nothing: what each ensures
 //! is the law.
-ghost use Rattle.std.specs.Prelude.{◌≡◌, ℕ, ◌+◌, List, [], ◌∷◌, ◌++◌, length, map};
+ghost use Rattle.std.specs.Prelude.{◌≡◌, ℕ, ◌+◌, ◌≤◌, List, [], ◌∷◌, ◌++◌, length, map, take};
 ghost use Rattle.bit_lists.specs.Bits.{AreBits};
 ghost use Rattle.rate_table.specs.declared.CodeRate.{CodeRate};
+ghost use Rattle.puncture_map.specs.Kept.{kept_count};
 ghost use Rattle.survivor_memory.specs.Costs.{cost};
 ghost use Rattle.survivor_memory.specs.Nearest.{IsNearest};
 ghost use Rattle.kept_weights.specs.Decisions.{pairs_of};
@@ -24,12 +25,22 @@ pub fn one_nearest()
         → (u ≡ v) × (d ≡ e) }
 {}
 
-/// The pairs of marks of decisions are made step by step, and a list's distance to them is the number of decisions that
-/// differ from its kept code (own).
+/// To at least six pairs of marks there is a nearest list (own).
+pub fn some_nearest()
+    ensures { (marks : List (Mark × Mark)) → 6 ≤ length marks
+        → (u : List ℕ) × ((least : ℕ) × IsNearestTo marks u least) }
+{
+    survivor_memory::laws::some_nearest();
+}
+
+/// The pairs of marks of decisions are made step by step, decisions behind the kept places play no part, and a list's
+/// distance to the marks is the number of decisions that differ from its kept code (own).
 pub fn marks_of_decisions()
     ensures none { (rate : CodeRate) (decisions : List ℕ) → marks_of rate decisions 0 ≡ [] }
     ensures one_more { (rate : CodeRate) (decisions : List ℕ) (steps : ℕ)
         → marks_of rate decisions (steps + 1) ≡ marks_of rate decisions steps ++ marks_at rate decisions steps ∷ [] }
+    ensures first_decisions { (rate : CodeRate) (decisions : List ℕ) (steps : ℕ)
+        → marks_of rate (take (kept_count rate steps) decisions) steps ≡ marks_of rate decisions steps }
     ensures costs { (rate : CodeRate) (decisions : List ℕ) (steps : ℕ) → AreBits decisions
         → map costs_of (marks_of rate decisions steps) ≡ pairs_of rate 1 decisions steps }
     ensures distance { (rate : CodeRate) (u decisions : List ℕ) (steps : ℕ) → AreBits decisions → length u ≡ steps

@@ -1,4 +1,4 @@
-use Rattle.std.proofs.Common.{◌≡◌, ℕ, subst}
+use Rattle.std.proofs.Common.{◌≡◌, subst}
 use Rattle.bit_lists.specs.Text.{IsBadPlace}
 use Rattle.bit_lists.proofs.Characters.{bad_place}
 use Rattle.bit_lists.proofs.read_text.Goals as goal

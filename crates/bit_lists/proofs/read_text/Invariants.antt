@@ -1,6 +1,6 @@
-use Rattle.std.proofs.Common.{◌≡◌, ℕ, ◌<◌, get_or, take}
+use Rattle.std.proofs.Common.{◌≡◌, take}
 use Rattle.bit_lists.specs.Bits.{AreBits}
-use Rattle.bit_lists.specs.Text.{IsCharacter, characters_of}
+use Rattle.bit_lists.specs.Text.{characters_of}
 use Rattle.bit_lists.proofs.read_text.Given as goal
 
 abbrev pub invariant-loop-at : goal.invariant-loop-at

@@ -1,6 +1,6 @@
-use Rattle.std.proofs.Common.{◌≡◌, ℕ, ◌+◌, ◌+ℤ◌, ap, ◌∙◌, refl, length-set, arith}
+use Rattle.std.proofs.Common.{◌+◌, ap, ◌∙◌, refl, length-set, arith}
 use Rattle.std.specs.List.{slice_range}
-use Rattle.lane_kernels.specs.Kernels.{held, held_sum}
+use Rattle.lane_kernels.specs.Kernels.{held_sum}
 use Rattle.lane_kernels.specs.Lanes.{sample_at}
 use Rattle.lane_kernels.proofs.Storing.{lane-held, same_sample, sums-more}
 use Rattle.lane_kernels.proofs.Wholes.{sample-chunk}

@@ -1,5 +1,4 @@
-use Rattle.std.proofs.Common.{◌≡◌, ◌+◌, ◌*◌, ◌/◌, length, ◌∙◌, refl, arith}
-use Rattle.lane_kernels.specs.Lanes.{HoldsSums}
+use Rattle.std.proofs.Common.{◌≡◌, ◌+◌, ◌*◌, ◌/◌, length, ◌∙◌, arith}
 use Rattle.lane_kernels.proofs.Storing.{sums-join, sums-whole}
 use Rattle.lane_kernels.proofs.add_saturating.Goals as goal
 

@@ -1,4 +1,4 @@
-use Rattle.std.proofs.Common.{◌≡◌, ap, ◌∙◌, refl, arith}
+use Rattle.std.proofs.Common.{◌≡◌, ap, ◌∙◌, refl}
 use Rattle.lane_kernels.specs.Lanes.{number_at, sample_at}
 use Rattle.lane_kernels.proofs.Totals.{eight-at}
 use Rattle.lane_kernels.proofs.any_loud.Goals as goal

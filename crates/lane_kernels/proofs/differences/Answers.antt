@@ -1,4 +1,4 @@
-use Rattle.std.proofs.Common.{◌≡◌, ◌+◌, length, refl, arith}
+use Rattle.std.proofs.Common.{◌≡◌, length, refl, arith}
 use Rattle.std.proofs.lemmas.Bool.Decides.{nat_tests}
 use Rattle.lane_kernels.proofs.ByteMasks.{differences-one, take-whole}
 use Rattle.lane_kernels.proofs.differences.Goals.{then-a-n, else-a-n}
@@ -12,8 +12,8 @@ loop-n-preserved c =
     let n = c.loop-n.n in
     let one = differences-one c.args.a.now c.args.b.now n (omega arith) c.requires.long in
     elim c.if-a-n.branch [
-      then-a-n w ↦ record { so_far = grind (arith, nat_tests); within = omega arith }
-    | else-a-n w ↦ record { so_far = grind (arith, nat_tests); within = omega arith }
+      | then-a-n w ↦ record { so_far = grind (arith, nat_tests); within = omega arith }
+      | else-a-n w ↦ record { so_far = grind (arith, nat_tests); within = omega arith }
     ]
 
 pub returns : goal.returns

@@ -1,4 +1,4 @@
-use Rattle.std.proofs.Common.{◌≡◌, ◌≤◌, length, take}
+use Rattle.std.proofs.Common.{◌≡◌, ◌≤◌, take}
 use Rattle.lane_kernels.specs.Kernels.{differences_of}
 use Rattle.lane_kernels.proofs.differences.Given as goal
 

@@ -1,6 +1,4 @@
-use Rattle.std.proofs.Common.{◌≡◌, SFits, pos, rules, arith}
-use mir.Syntax.{w16}
-use Rattle.std.proofs.lemmas.Int.{to_z-of_z}
+use Rattle.std.proofs.Common.{pos, rules}
 use Rattle.lane_kernels.specs.Lanes.{IsOf16Bits, sample_at}
 use Rattle.lane_kernels.proofs.Totals.{eight-each}
 use Rattle.lane_kernels.proofs.Widening.{of_16_bits, component_of_16_bits, component}

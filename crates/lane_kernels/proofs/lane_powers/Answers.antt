@@ -1,6 +1,6 @@
-use Rattle.std.proofs.Common.{ℕ, ◌+◌, ◌*◌, ◌^◌, ◌+ℤ◌, refl, ap, ◌∙◌, arith}
+use Rattle.std.proofs.Common.{◌+◌, ◌*◌, ◌^◌, ◌+ℤ◌, refl, ap, ◌∙◌, arith}
 use Rattle.std.specs.List.{slice_range}
-use Rattle.lane_kernels.specs.Kernels.{power_of, product_of}
+use Rattle.lane_kernels.specs.Kernels.{power_of}
 use Rattle.lane_kernels.specs.Lanes.{number_at, sample_at}
 use Rattle.lane_kernels.proofs.Totals.{eight-same, lanes-more}
 use Rattle.lane_kernels.proofs.Wholes.{none_yet, none_within, sample-chunk}
@@ -17,8 +17,8 @@ loop-k-preserved c =
     let new = c.add_powers-summed.result in
     let grown = c.add_powers-summed.ensures.grown (2 ^ 31 * c.loop-k.k) c.loop-k.invariant.within in
     let is = c.add_powers-summed.ensures.value
-      ∙ eight-same (λ n. number_at c.loop-k.sums n +ℤ power_of (sample_at (slice_range a i j) n)) (λ n. number_at c.loop-k.sums n +ℤ power_of (sample_at a (i + n)))
-      (λ n below. ap (λ x. number_at c.loop-k.sums n +ℤ power_of x) (sample-chunk a i j n (omega arith) below)) in
+    ∙ eight-same (λ n. number_at c.loop-k.sums n +ℤ power_of (sample_at (slice_range a i j) n)) (λ n. number_at c.loop-k.sums n +ℤ power_of (sample_at a (i + n)))
+    (λ n below. ap (λ x. number_at c.loop-k.sums n +ℤ power_of x) (sample-chunk a i j n (omega arith) below)) in
     record {
       long = omega arith;
       so_far = lanes-more (λ m. power_of (sample_at a m)) c.loop-k.sums new i (8 * (c.loop-k.k + 1)) c.loop-k.invariant.long (omega arith) c.loop-k.invariant.so_far is;

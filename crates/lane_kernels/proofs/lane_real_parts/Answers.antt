@@ -1,6 +1,6 @@
-use Rattle.std.proofs.Common.{ℕ, ◌+◌, ◌*◌, ◌^◌, ◌+ℤ◌, refl, ap, ◌∙◌, arith}
+use Rattle.std.proofs.Common.{◌+◌, ◌*◌, ◌^◌, ◌+ℤ◌, refl, ◌∙◌, arith}
 use Rattle.std.specs.List.{slice_range}
-use Rattle.lane_kernels.specs.Kernels.{power_of, product_of}
+use Rattle.lane_kernels.specs.Kernels.{product_of}
 use Rattle.lane_kernels.specs.Lanes.{number_at, sample_at}
 use Rattle.lane_kernels.proofs.Totals.{eight-same, lanes-more}
 use Rattle.lane_kernels.proofs.Wholes.{none_yet, none_within, sample-chunk}
@@ -18,10 +18,10 @@ loop-k-preserved c =
     let new = c.add_real_parts-summed.result in
     let grown = c.add_real_parts-summed.ensures.grown (2 ^ 31 * c.loop-k.k) c.loop-k.invariant.within in
     let is = c.add_real_parts-summed.ensures.value
-      ∙ eight-same (λ n. number_at c.loop-k.sums n +ℤ (product_of (sample_at (slice_range a i j) n) (sample_at (slice_range b i j) n)).re) (λ n. number_at c.loop-k.sums n +ℤ (product_of (sample_at a (i + n)) (sample_at b (i + n))).re)
-      (λ n below. let e = sample-chunk a i j n (omega arith) below in
-        let f = sample-chunk b i j n (omega arith) below in
-        rw (e, f) refl) in
+    ∙ eight-same (λ n. number_at c.loop-k.sums n +ℤ (product_of (sample_at (slice_range a i j) n) (sample_at (slice_range b i j) n)).re) (λ n. number_at c.loop-k.sums n +ℤ (product_of (sample_at a (i + n)) (sample_at b (i + n))).re)
+    (λ n below. let e = sample-chunk a i j n (omega arith) below in
+    let f = sample-chunk b i j n (omega arith) below in
+    rw (e, f) refl) in
     record {
       long = omega arith;
       so_far = lanes-more (λ m. (product_of (sample_at a m) (sample_at b m)).re) c.loop-k.sums new i (8 * (c.loop-k.k + 1)) c.loop-k.invariant.long (omega arith) c.loop-k.invariant.so_far is;

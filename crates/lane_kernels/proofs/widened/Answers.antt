@@ -1,4 +1,3 @@
-use Rattle.lane_kernels.specs.Lanes.{AreWithin}
 use Rattle.lane_kernels.proofs.Widening.{widened-is, within-16_bits}
 use Rattle.lane_kernels.proofs.widened.Goals as goal
 

@@ -1,3 +1,4 @@
+use Rattle.std.proofs.Common.{inr, refl}
 use Rattle.bit_lists.proofs.Texts.{some_text, one_text, one_place, apart}
 use Rattle.bit_lists.proofs.laws.bits_or_a_bad_place.Goals as goal
 
@@ -12,3 +13,6 @@ returns-clause-one_place c = one_place
 
 pub returns-clause-apart : goal.returns-clause-apart
 returns-clause-apart c = apart
+
+pub returns-clause-written : goal.returns-clause-written
+returns-clause-written c = λ bits. inr refl
