@@ -55,3 +55,16 @@ others_stay points n k bin lt small other =
     let not_here : data_number_in bin ≢ k =
     λ e. other (sym (ap (λ j. bin_of (data_carrier_of j)) (sym e) ∙ bin_there bin lt (omega (arith, e)))) in
     ap (λ b. if b then slice_index_or points (data_number_in bin) zero_pair else pilot_at n (carrier_in bin)) (same_test (data_number_in bin) k not_here)
+
+-- what stands in a bin of a symbol
+pub point_there : (points : List Cx) (n k : ℕ) → k < 48 → symbol_bin points n (bin_of (data_carrier_of k)) ≡ slice_index_or points k zero_pair
+unfolding symbol_bin
+point_there points n k lt = rw (number_there k lt, lt-ltb k 48 lt) refl
+
+pub pilot_there : (points : List Cx) (n bin : ℕ) → bin < 64 → ((k : ℕ) → k < 48 → bin_of (data_carrier_of k) ≢ bin) → symbol_bin points n bin ≡ pilot_at n (carrier_in bin)
+unfolding symbol_bin
+pilot_there points n bin lt none =
+    elim (cases_lt (data_number_in bin) 48) [
+      | inl inside ↦ absurd (none (data_number_in bin) inside (bin_there bin lt inside))
+      | inr past ↦ rw (le-ltb (data_number_in bin) 48 past) refl
+    ]

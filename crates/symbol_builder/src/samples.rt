@@ -35,10 +35,10 @@ fn pilots(n: u32) -> [Cx; 64]
 {
     let pilot = PILOT_AMPLITUDE * polarity(n);
     let mut carriers = [Cx { re: 0, im: 0 }; 64];
-    carriers[bin(-21)].re = pilot;
-    carriers[bin(-7)].re = pilot;
-    carriers[bin(7)].re = pilot;
-    carriers[bin(21)].re = -pilot;
+    carriers[bin(-21)] = Cx { re: pilot, im: 0 };
+    carriers[bin(-7)] = Cx { re: pilot, im: 0 };
+    carriers[bin(7)] = Cx { re: pilot, im: 0 };
+    carriers[bin(21)] = Cx { re: -pilot, im: 0 };
     carriers
 }
 
