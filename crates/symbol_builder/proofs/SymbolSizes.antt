@@ -9,7 +9,7 @@ use Rattle.butterfly64.specs.Bounds.{AreWithin}
 use Rattle.butterfly64.specs.StagedSums.{entry}
 use Rattle.constellations.specs.Carriers.{bin_of, data_carrier_of}
 use Rattle.training_fields.specs.Bins.{carrier_in}
-use Rattle.training_fields.specs.Loads.{FitASample}
+use Rattle.training_fields.specs.Bounds.{FitASample}
 use Rattle.training_fields.specs.Signs.{sign_at}
 use Rattle.training_fields.proofs.Places.{entry-map, everywhere_within}
 use Rattle.symbol_builder.specs.Carriers.{data_number_in, pilot_sign_of, symbol_bin, symbol_bins}

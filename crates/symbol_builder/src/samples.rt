@@ -3,7 +3,8 @@ ghost use Rattle.std.specs.Prelude.{◌≡◌};
 ghost use Rattle.butterfly64.specs.Bounds.{AreWithin};
 ghost use Rattle.lane_kernels.specs.Lanes.{sample_at};
 ghost use Rattle.training_fields.specs.Bins.{all_bins};
-ghost use Rattle.training_fields.specs.Loads.{AreNearPlain, AreSamplesWithin};
+ghost use Rattle.training_fields.specs.Bounds.{AreSamplesWithin};
+ghost use Rattle.training_fields.specs.Nearness.{AreNearPlain};
 ghost use Rattle.symbol_builder.specs.Carriers.{pilot_at, plain_symbol, sent_symbol, symbol_bins, symbol_times};
 
 use crate::polarity;

@@ -7,7 +7,8 @@ use Rattle.fixed_complex.specs.declared.Sample.{Sample}
 use Rattle.butterfly64.specs.StagedSums.{entry}
 use Rattle.lane_kernels.specs.Lanes.{sample_at}
 use Rattle.training_fields.specs.Bodies.{all_times, plain_body, sent_body}
-use Rattle.training_fields.specs.Loads.{AreNearPlain, AreSamplesWithin, IsNearPlain, IsSampleWithin}
+use Rattle.training_fields.specs.Bounds.{AreSamplesWithin, IsSampleWithin}
+use Rattle.training_fields.specs.Nearness.{AreNearPlain, IsNearPlain}
 use Rattle.training_fields.proofs.Places.{entry-map, near-map, plain_body-local, sample-map, sent_body-local, within-map}
 
 -- samples are the body of what is carried by bin: exactly, near the plain body, and within their bound

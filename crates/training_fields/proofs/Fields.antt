@@ -11,7 +11,7 @@ use Rattle.butterfly64.specs.Bounds.{AreWithin}
 use Rattle.butterfly64.specs.StagedSums.{entry}
 use Rattle.butterfly64.proofs.ByPlace.{both_of, passes_at}
 use Rattle.training_fields.specs.Bins.{all_bins, by_bin, carrier_in}
-use Rattle.training_fields.specs.Loads.{FitASample}
+use Rattle.training_fields.specs.Bounds.{FitASample}
 use Rattle.training_fields.specs.Signs.{sign_at}
 use Rattle.training_fields.specs.Training.{long_carrier, long_sign_of, short_carrier, short_sign_of}
 use Rattle.training_fields.proofs.Places.{entry-map}

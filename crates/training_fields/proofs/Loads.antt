@@ -15,7 +15,8 @@ use Rattle.butterfly64.specs.StagedSums.{entry, up_at}
 use Rattle.butterfly64.proofs.Sizes.{wider, size-plus, size-times, size-within, within-size}
 use Rattle.butterfly64.proofs.TurnSizes.{turn-size}
 use Rattle.training_fields.specs.Bodies.{plain_body, sample_of, sent_body}
-use Rattle.training_fields.specs.Loads.{FitASample, IsNearPlain, IsSampleWithin}
+use Rattle.training_fields.specs.Bounds.{FitASample, IsSampleWithin}
+use Rattle.training_fields.specs.Nearness.{IsNearPlain}
 
 -- the sizes of the first bins
 abbrev total : (ℕ → ℕ) → ℕ → ℕ

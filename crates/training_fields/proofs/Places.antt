@@ -15,7 +15,8 @@ use Rattle.butterfly64.specs.StagedSums.{entry}
 use Rattle.butterfly64.proofs.Halves.{up_at-local}
 use Rattle.lane_kernels.specs.Lanes.{sample_at}
 use Rattle.training_fields.specs.Bodies.{all_times, plain_body, sample_of, sent_body}
-use Rattle.training_fields.specs.Loads.{AreNearPlain, AreSamplesWithin, IsNearPlain, IsSampleWithin}
+use Rattle.training_fields.specs.Bounds.{AreSamplesWithin, IsSampleWithin}
+use Rattle.training_fields.specs.Nearness.{AreNearPlain, IsNearPlain}
 
 -- ---- entries of lists by place
 pub entry-map : (f : ℕ → Cx) (size n : ℕ) → n < size → entry (map f (range_with_len 0 size)) n ≡ f n

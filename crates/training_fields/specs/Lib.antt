@@ -1,5 +1,6 @@
 pub mod Signs
 pub mod Bins
 pub mod Bodies
-pub mod Loads
+pub mod Bounds
+pub mod Nearness
 pub mod Training

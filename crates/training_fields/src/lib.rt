@@ -11,7 +11,8 @@ ghost use Rattle.lane_kernels.specs.Lanes.{sample_at};
 ghost use Rattle.training_fields.specs.Signs.{sign_at, sign_of};
 ghost use Rattle.training_fields.specs.Bins.{all_bins, carrier_in};
 ghost use Rattle.training_fields.specs.Bodies.{all_times, plain_body, plain_sample, sample_of, sent_body};
-ghost use Rattle.training_fields.specs.Loads.{AreNearPlain, AreSamplesWithin, FitASample, IsSampleWithin};
+ghost use Rattle.training_fields.specs.Bounds.{AreSamplesWithin, FitASample, IsSampleWithin};
+ghost use Rattle.training_fields.specs.Nearness.{AreNearPlain};
 ghost use Rattle.training_fields.specs.Training.{long_carrier, long_sign_of, long_times, preamble_of, short_carrier, short_sign_of, short_times, template_of};
 
 use butterfly64::up;

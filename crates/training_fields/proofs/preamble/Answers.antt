@@ -4,7 +4,8 @@ use Rattle.butterfly64.specs.StagedSums.{entry}
 use Rattle.lane_kernels.specs.Lanes.{sample_at}
 use Rattle.training_fields.specs.Bins.{by_bin}
 use Rattle.training_fields.specs.Bodies.{plain_body, sent_body}
-use Rattle.training_fields.specs.Loads.{AreNearPlain, AreSamplesWithin}
+use Rattle.training_fields.specs.Bounds.{AreSamplesWithin}
+use Rattle.training_fields.specs.Nearness.{AreNearPlain}
 use Rattle.training_fields.specs.Training.{long_carrier, long_times, preamble_of, short_carrier, short_times}
 use Rattle.training_fields.proofs.Bodies.{IsBody, exact-at, is_body, near-at, within-at}
 use Rattle.training_fields.proofs.Fields.{long_fits, long_within, short_fits, short_within}

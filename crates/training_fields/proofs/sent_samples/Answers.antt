@@ -7,7 +7,8 @@ use Rattle.butterfly64.specs.Samples.{by_256, rounded_pair}
 use Rattle.butterfly64.specs.StagedSums.{entry, up_at, up_sums}
 use Rattle.butterfly64.proofs.Halves.{up_at-local}
 use Rattle.training_fields.specs.Bodies.{sent_body, plain_body, sample_of}
-use Rattle.training_fields.specs.Loads.{FitASample, IsNearPlain, IsSampleWithin}
+use Rattle.training_fields.specs.Bounds.{FitASample, IsSampleWithin}
+use Rattle.training_fields.specs.Nearness.{IsNearPlain}
 use Rattle.training_fields.proofs.Filled.{none_filled, one_more, all_filled}
 use Rattle.training_fields.proofs.Loads.{sent_within}
 use Rattle.training_fields.proofs.Places.{entry-map, everywhere_within, near-map, within-map}
