@@ -1,2 +1,5 @@
 mod Fronts
 mod Polarities
+pub mod Bins
+pub mod Pilots
+pub mod SymbolSizes

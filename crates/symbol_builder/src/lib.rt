@@ -17,8 +17,11 @@ use fixed_complex::Cx;
 use rate_table::{Modulation, Rate};
 
 mod field;
+pub mod laws;
+mod samples;
 
 pub use field::frame_field;
+pub use samples::{carriers, symbol_samples};
 
 /// How many samples of a frame stand before its DATA symbols: both training fields and SIGNAL.
 const HEAD_SAMPLES: u32 = 400;
@@ -94,3 +97,6 @@ static POLARITIES: [i64; 127] = [
     -1, -1, 1, -1, 1, 1, 1, 1, -1, 1, -1, 1, -1, 1, -1, -1, -1, -1, -1, 1, -1, 1, 1, -1, 1, -1, 1,
     1, 1, -1, -1, 1, -1, -1, -1, 1, 1, 1, -1, -1, -1, -1, -1, -1, -1,
 ];
+
+#[cfg(test)]
+mod tests;

@@ -1,5 +1,5 @@
 -- Carriers and their bins (own): a carrier stands in the bin that is the carrier modulo 64.
-use Rattle.std.specs.Prelude.{ℕ, zero, suc, ◌*◌, nat_lt, List, map, reverse, slice_index_or, ℤ, pos, negsuc, ◌-ℤ◌, ◌*ℤ◌, if◌then◌else◌}
+use Rattle.std.specs.Prelude.{ℕ, nat_lt, List, map, ℤ, pos, ◌-ℤ◌, if◌then◌else◌}
 use Rattle.std.specs.List.{range_with_len}
 use Rattle.fixed_complex.specs.declared.Cx.{Cx}
 
@@ -14,9 +14,3 @@ by_bin carried bin = carried (carrier_in bin)
 -- the same as a list of the 64 bins
 abbrev pub all_bins : (ℤ → Cx) → List Cx
 all_bins carried = map (by_bin carried) (range_with_len 0 64)
-
--- a sign of a carrier, from the signs of the carriers from -26 to -1 and of those from 1 to 26; 0 elsewhere
-abbrev pub sign_at : List ℤ → List ℤ → ℤ → ℤ
-sign_at below above (pos zero) = pos 0
-sign_at below above (pos (suc n)) = slice_index_or above n (pos 0)
-sign_at below above (negsuc n) = slice_index_or (reverse below) n (pos 0)

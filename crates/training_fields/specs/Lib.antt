@@ -1,4 +1,6 @@
-pub mod Bodies
+pub mod Signs
 pub mod Bins
+pub mod Bodies
+pub mod Bounds
+pub mod Nearness
 pub mod Training
-pub mod Loads

@@ -1,34 +1,25 @@
 -- The short and the long training field (IEEE Std 802.11-2012, 18.3.3; the amplitudes are own).
-use Rattle.std.specs.Prelude.{ℕ, ◌+◌, ◌%◌, List, [], ◌∷◌, ◌++◌, map, ℤ, pos, negsuc, ◌*ℤ◌}
+use Rattle.std.specs.Prelude.{ℕ, ◌+◌, ◌%◌, List, ◌++◌, map, codes, ℤ, pos, ◌*ℤ◌}
 use Rattle.std.specs.List.{range_with_len}
 use Rattle.fixed_complex.specs.declared.Cx.{Cx}
 use Rattle.fixed_complex.specs.declared.Sample.{Sample}
-use Rattle.training_fields.specs.Bins.{by_bin, sign_at}
+use Rattle.training_fields.specs.Bins.{by_bin}
 use Rattle.training_fields.specs.Bodies.{plain_body, sample_of}
+use Rattle.training_fields.specs.Signs.{sign_at}
 
--- S: the signs of the short training field on the carriers from -26 to -1, and on those from 1 to 26
-abbrev pub short_signs_below : List ℤ
-short_signs_below =
-    pos 0 ∷ pos 0 ∷ pos 1 ∷ pos 0 ∷ pos 0 ∷ pos 0 ∷ negsuc 0 ∷ pos 0 ∷ pos 0 ∷ pos 0 ∷ pos 1 ∷ pos 0 ∷ pos 0 ∷ pos 0 ∷ negsuc 0 ∷ pos 0 ∷ pos 0 ∷ pos 0 ∷ negsuc 0 ∷ pos 0 ∷ pos 0 ∷ pos 0 ∷ pos 1 ∷ pos 0 ∷ pos 0 ∷ pos 0 ∷ []
+-- S: the signs of the short training field on the carriers from -26 to 26
+abbrev pub short_signs : List ℕ
+short_signs = codes "00+000-000+000-000-000+0000000-000-000+000+000+000+00"
 
-abbrev pub short_signs_above : List ℤ
-short_signs_above =
-    pos 0 ∷ pos 0 ∷ pos 0 ∷ negsuc 0 ∷ pos 0 ∷ pos 0 ∷ pos 0 ∷ negsuc 0 ∷ pos 0 ∷ pos 0 ∷ pos 0 ∷ pos 1 ∷ pos 0 ∷ pos 0 ∷ pos 0 ∷ pos 1 ∷ pos 0 ∷ pos 0 ∷ pos 0 ∷ pos 1 ∷ pos 0 ∷ pos 0 ∷ pos 0 ∷ pos 1 ∷ pos 0 ∷ pos 0 ∷ []
-
--- L: the signs of the long training field, likewise
-abbrev pub long_signs_below : List ℤ
-long_signs_below =
-    pos 1 ∷ pos 1 ∷ negsuc 0 ∷ negsuc 0 ∷ pos 1 ∷ pos 1 ∷ negsuc 0 ∷ pos 1 ∷ negsuc 0 ∷ pos 1 ∷ pos 1 ∷ pos 1 ∷ pos 1 ∷ pos 1 ∷ pos 1 ∷ negsuc 0 ∷ negsuc 0 ∷ pos 1 ∷ pos 1 ∷ negsuc 0 ∷ pos 1 ∷ negsuc 0 ∷ pos 1 ∷ pos 1 ∷ pos 1 ∷ pos 1 ∷ []
-
-abbrev pub long_signs_above : List ℤ
-long_signs_above =
-    pos 1 ∷ negsuc 0 ∷ negsuc 0 ∷ pos 1 ∷ pos 1 ∷ negsuc 0 ∷ pos 1 ∷ negsuc 0 ∷ pos 1 ∷ negsuc 0 ∷ negsuc 0 ∷ negsuc 0 ∷ negsuc 0 ∷ negsuc 0 ∷ pos 1 ∷ pos 1 ∷ negsuc 0 ∷ negsuc 0 ∷ pos 1 ∷ negsuc 0 ∷ pos 1 ∷ negsuc 0 ∷ pos 1 ∷ pos 1 ∷ pos 1 ∷ pos 1 ∷ []
+-- L: the signs of the long training field
+abbrev pub long_signs : List ℕ
+long_signs = codes "++--++-+-++++++--++-+-++++0+--++-+-+-----++--+-+-++++"
 
 abbrev pub short_sign_of : ℤ → ℤ
-short_sign_of carrier = sign_at short_signs_below short_signs_above carrier
+short_sign_of carrier = sign_at short_signs carrier
 
 abbrev pub long_sign_of : ℤ → ℤ
-long_sign_of carrier = sign_at long_signs_below long_signs_above carrier
+long_sign_of carrier = sign_at long_signs carrier
 
 -- what a carrier carries in the short and in the long training field
 abbrev pub short_carrier : ℤ → Cx

@@ -1,5 +1,253 @@
 //! The training fields of a frame (IEEE Std 802.11-2012, 18.3.3), and the bodies of 64 samples. No call takes memory.
 #![tactic(auto)]
 
-ghost use Rattle.std.specs.Prelude.{◌≡◌};
-ghost use Rattle.training_fields.specs.Training.{template_of};
+ghost use Rattle.std.specs.Prelude.{◌≡◌, ℕ, ◌+◌, ◌*◌, ◌^◌, ◌<◌, ◌≤◌, ◌++◌, map, unsigned_abs};
+ghost use Rattle.fixed_complex.specs.Pairs.{IsWithin};
+ghost use Rattle.fixed_complex.specs.Rounding.{half_up};
+ghost use Rattle.butterfly64.specs.Bounds.{AreWithin};
+ghost use Rattle.butterfly64.specs.Samples.{by_256};
+ghost use Rattle.butterfly64.specs.StagedSums.{entry};
+ghost use Rattle.lane_kernels.specs.Lanes.{sample_at};
+ghost use Rattle.training_fields.specs.Signs.{sign_at, sign_of};
+ghost use Rattle.training_fields.specs.Bins.{all_bins, carrier_in};
+ghost use Rattle.training_fields.specs.Bodies.{all_times, plain_body, plain_sample, sample_of, sent_body};
+ghost use Rattle.training_fields.specs.Bounds.{AreSamplesWithin, FitASample, IsSampleWithin};
+ghost use Rattle.training_fields.specs.Nearness.{AreNearPlain};
+ghost use Rattle.training_fields.specs.Training.{long_carrier, long_sign_of, long_times, preamble_of, short_carrier, short_sign_of, short_times, template_of};
+
+use butterfly64::up;
+use fixed_complex::{Cx, Sample, add, mul, turn};
+
+// The signs of the carriers from -26 to 26: + for 1, - for -1, and 0.
+static SHORT_SIGNS: [u8; 53] = *b"00+000-000+000-000-000+0000000-000-000+000+000+000+00";
+static LONG_SIGNS: [u8; 53] = *b"++--++-+-++++++--++-+-++++0+--++-+-+-----++--+-+-++++";
+
+// Both components of a carrier of the short training field, and what one of the long training field carries.
+const SHORT_AMPLITUDE: i64 = 954;
+const LONG_AMPLITUDE: i64 = 648;
+
+const ZERO: Cx = Cx { re: 0, im: 0 };
+const SILENCE: Sample = Sample { i: 0, q: 0 };
+
+/// L, the sign of a carrier in the long training field: 1 or -1, and 0 where L has no entry, for every number
+/// (IEEE Std 802.11-2012, 18.3.3).
+pub fn long_sign(carrier: i32) -> i64
+    ensures sign { result ≡ long_sign_of carrier }
+    ensures within { unsigned_abs result ≤ 1 }
+{
+    sign_at(&LONG_SIGNS, carrier)
+}
+
+// S, the sign of a carrier in the short training field.
+fn short_sign(carrier: i32) -> i64
+    ensures sign { result ≡ short_sign_of carrier }
+    ensures within { unsigned_abs result ≤ 1 }
+{
+    sign_at(&SHORT_SIGNS, carrier)
+}
+
+// The sign of a carrier in a text of signs.
+fn sign_at(signs: &[u8; 53], carrier: i32) -> i64
+    ensures sign { result ≡ sign_at signs.now carrier }
+    ensures within { unsigned_abs result ≤ 1 }
+{
+    match carrier {
+        -26..=26 => sign_of(signs[(carrier + 26) as usize]),
+        _ => 0,
+    }
+}
+
+// The sign that a character stands for.
+fn sign_of(character: u8) -> i64
+    ensures sign { result ≡ sign_of character }
+    ensures within { unsigned_abs result ≤ 1 }
+{
+    match character {
+        b'+' => 1,
+        b'-' => -1,
+        _ => 0,
+    }
+}
+
+/// What the carriers of the short training field carry, by bin (IEEE Std 802.11-2012, 18.3.3; the amplitude is own).
+pub fn short_carriers() -> [Cx; 64]
+    ensures { result ≡ all_bins short_carrier }
+{
+    let mut carriers = [ZERO; 64];
+    for bin in 0..64 {
+        let part = SHORT_AMPLITUDE * short_sign(carrier_in(bin));
+        carriers[bin] = Cx { re: part, im: part };
+    }
+    carriers
+}
+
+/// What the carriers of the long training field carry, by bin (IEEE Std 802.11-2012, 18.3.3; the amplitude is own).
+pub fn long_carriers() -> [Cx; 64]
+    ensures { result ≡ all_bins long_carrier }
+{
+    let mut carriers = [ZERO; 64];
+    for bin in 0..64 {
+        carriers[bin] = Cx {
+            re: LONG_AMPLITUDE * long_sign(carrier_in(bin)),
+            im: 0,
+        };
+    }
+    carriers
+}
+
+// The carrier that stands in a bin.
+fn carrier_in(bin: usize) -> i32
+    requires { bin < 64 }
+    ensures carrier { result ≡ carrier_in bin }
+    ensures within { unsigned_abs result ≤ 32 }
+{
+    if bin < 32 {
+        bin as i32
+    } else {
+        bin as i32 - 64
+    }
+}
+
+/// The sent samples of both training fields, 160 each (IEEE Std 802.11-2012, 18.3.3). Each is within 1 of the plain
+/// one, and no component is larger than 25057 in size (own).
+pub fn preamble() -> [Sample; 320]
+    ensures samples { result ≡ preamble_of sent_body }
+    ensures near { AreNearPlain 1 result (preamble_of plain_body) }
+    ensures within { AreSamplesWithin 25057 result }
+{
+    in_time(
+        &sent_samples(&short_carriers()),
+        &sent_samples(&long_carriers()),
+    )
+}
+
+// Both training fields at their times, from the body of each.
+fn in_time(short: &[Sample; 64], long: &[Sample; 64]) -> [Sample; 320]
+    ensures { result ≡ short_times (sample_at short.now) ++ long_times (sample_at long.now) }
+{
+    let mut samples = [SILENCE; 320];
+    for time in 0..160 {
+        samples[time] = short[time % 64];
+        samples[160 + time] = long[(time + 32) % 64];
+    }
+    samples
+}
+
+/// The body that is sent: the 64 samples of what the carriers carry, given by bin, each component at most 954 in size
+/// and all of them together small enough for a sample (own). Each sample is within 1 of the plain one, which is half
+/// the sum of the carriers, and no component is larger than 25057 in size.
+pub fn sent_samples(carriers: &[Cx; 64]) -> [Sample; 64]
+    requires within { AreWithin 954 carriers.now }
+    requires fits { FitASample carriers.now }
+    ensures samples { result ≡ all_times (sent_body (entry carriers.now)) }
+    ensures near { AreNearPlain 1 result (all_times (plain_body (entry carriers.now))) }
+    ensures within { AreSamplesWithin 25057 result }
+{
+    butterfly64::laws::sent_samples();
+    let sums = up(&by_256(carriers));
+    let mut samples = [SILENCE; 64];
+    for n in 0..64 {
+        samples[n] = over_2_9(sums[n]);
+    }
+    samples
+}
+
+// The carriers times 256.
+fn by_256(carriers: &[Cx; 64]) -> [Cx; 64]
+    requires { AreWithin 954 carriers.now }
+    ensures carriers { (bin : ℕ) → bin < 64 → entry result bin ≡ by_256 (entry carriers.now) bin }
+    ensures within { AreWithin (2 ^ 30) result }
+{
+    let mut enlarged = *carriers;
+    for bin in 0..64 {
+        enlarged[bin] = Cx {
+            re: 256 * carriers[bin].re,
+            im: 256 * carriers[bin].im,
+        };
+    }
+    enlarged
+}
+
+// A sample: a staged sum over 512, rounded half up.
+fn over_2_9(sum: Cx) -> Sample
+    requires { IsSampleWithin 25057 (sample_of 9 sum) }
+    ensures { result ≡ sample_of 9 sum }
+{
+    Sample {
+        i: ((sum.re + (1 << 8)) >> 9) as i16,
+        q: ((sum.im + (1 << 8)) >> 9) as i16,
+    }
+}
+
+/// The template of the search for a frame: the 320 samples of the plain waveform of both training fields, each
+/// component rounded half up (own).
+pub fn template() -> [Sample; 320]
+    ensures samples { result ≡ template_of }
+    ensures within { AreSamplesWithin 25057 result }
+{
+    in_time(
+        &plain_samples(&short_carriers()),
+        &plain_samples(&long_carriers()),
+    )
+}
+
+// The plain body, rounded to samples.
+fn plain_samples(carriers: &[Cx; 64]) -> [Sample; 64]
+    requires within { AreWithin 954 carriers.now }
+    requires fits { FitASample carriers.now }
+    ensures samples { result ≡ all_times (plain_sample (entry carriers.now)) }
+    ensures within { AreSamplesWithin 25057 result }
+{
+    let mut samples = [SILENCE; 64];
+    for n in 0..64 {
+        samples[n] = over_2_21(plain_sum(carriers, n));
+    }
+    samples
+}
+
+// The plain sum of the carriers at a time: 2^21 times a real sample.
+fn plain_sum(carriers: &[Cx; 64], n: usize) -> Cx
+    requires within { AreWithin 954 carriers.now }
+    requires time { n < 64 }
+    ensures { result ≡ plain_body (entry carriers.now) n }
+{
+    let mut sum = ZERO;
+    for bin in 0..64 {
+        sum = add(sum, mul(carriers[bin], turn(bin * n)));
+    }
+    sum
+}
+
+// A sample: a plain sum over 2^21, rounded half up.
+fn over_2_21(sum: Cx) -> Sample
+    requires { IsSampleWithin 25057 (sample_of 21 sum) }
+    ensures { result ≡ sample_of 21 sum }
+{
+    Sample {
+        i: ((sum.re + (1 << 20)) >> 21) as i16,
+        q: ((sum.im + (1 << 20)) >> 21) as i16,
+    }
+}
+
+#[cfg(test)]
+mod tests {
+    use super::*;
+
+    // Places, and the samples there, in the sent samples and in the template.
+    const ROWS: [(usize, Sample); 4] = [
+        (0, Sample { i: 954, q: 954 }),
+        (17, Sample { i: -2747, q: 49 }),
+        (192, Sample { i: 3240, q: 0 }),
+        (319, Sample { i: -106, q: 2495 }),
+    ];
+
+    #[test]
+    fn samples_of_both_fields(rt: HostRuntime) {
+        let (sent, plain) = (preamble(), template());
+        for (n, sample) in ROWS {
+            assert!(rt; n < 320);
+            assert_eq!(rt; sent[n], sample);
+            assert_eq!(rt; plain[n], sample);
+        }
+    }
+}

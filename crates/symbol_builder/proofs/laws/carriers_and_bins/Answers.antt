@@ -1,0 +1,35 @@
+use Rattle.std.proofs.Common.{◌≡◌, ℕ, ◌-◌, ◌<◌, ◌≤◌, ap, eqb, refl, ◌∙◌, arith, ℤ, pos, negsuc, neg_ℤ, ◌-ℤ◌, ◌≤ℤ◌}
+use Rattle.std.proofs.lemmas.Bool.{eqb-true, le-ltb, lt-ltb}
+use Rattle.std.proofs.lemmas.Int.{ints}
+use Rattle.butterfly64.proofs.ByPlace.{passes_at}
+use Rattle.constellations.specs.Carriers.{bin_of}
+use Rattle.training_fields.specs.Bins.{carrier_in}
+use Rattle.symbol_builder.proofs.laws.carriers_and_bins.Goals as goal
+
+bin_back : (bin : ℕ) → bin < 64 → bin_of (carrier_in bin) ≡ bin
+unfolding bin_of
+bin_back bin lt = eqb-true _ _ (passes_at (λ bin. eqb (bin_of (carrier_in bin)) bin) 64 refl bin lt)
+
+-- the carriers from 0 on, and those below it
+upper : (a : ℕ) → a < 32 → carrier_in a ≡ pos a
+upper a lt = rw (lt-ltb a 32 lt) refl
+
+lower : (a : ℕ) → a < 32 → carrier_in (63 - a) ≡ negsuc a
+lower a lt = let e : pos (63 - a) -ℤ pos 64 ≡ negsuc a = omega (arith, ints) in rw (le-ltb (63 - a) 32 (omega arith)) e
+
+carrier_back : (carrier : ℤ) → neg_ℤ (pos 32) ≤ℤ carrier → carrier ≤ℤ pos 31 → carrier_in (bin_of carrier) ≡ carrier
+unfolding bin_of
+carrier_back (pos a) least most =
+    let lt : a < 32 = omega (arith, ints) in
+    let bin : bin_of (pos a) ≡ a = omega arith in
+    ap carrier_in bin ∙ upper a lt
+carrier_back (negsuc a) least most =
+    let lt : a < 32 = omega (arith, ints) in
+    let bin : bin_of (negsuc a) ≡ 63 - a = omega arith in
+    ap carrier_in bin ∙ lower a lt
+
+pub returns-clause-bin : goal.returns-clause-bin
+returns-clause-bin c = bin_back
+
+pub returns-clause-carrier : goal.returns-clause-carrier
+returns-clause-carrier c = carrier_back

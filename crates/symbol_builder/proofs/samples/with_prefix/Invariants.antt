@@ -1,0 +1,7 @@
+use Rattle.std.proofs.Common.{◌+◌, ◌%◌, pos}
+use Rattle.lane_kernels.specs.Lanes.{sample_at}
+use Rattle.training_fields.proofs.Filled.{IsFilled}
+use Rattle.symbol_builder.proofs.samples.with_prefix.Given as goal
+
+abbrev pub invariant-loop-time : goal.invariant-loop-time
+invariant-loop-time l = IsFilled (record { i = pos 0; q = pos 0 }) (λ time. sample_at l.body ((time + 48) % 64)) 80 l.time l.samples

@@ -1,0 +1,35 @@
+//! What holds of the bins, the pilots and the points of a symbol. The functions do nothing: what each ensures is the
+//! law.
+
+ghost use Rattle.std.specs.Prelude.{◌≡◌, ◌≢◌, ℕ, ◌<◌, ◌==◌, ◌||◌, List, IsTrue, slice_index_or, ℤ, pos, neg_ℤ, ◌≤ℤ◌, unsigned_abs, if◌then◌else◌};
+ghost use Rattle.fixed_complex.specs.declared.Cx.{Cx};
+ghost use Rattle.fixed_complex.specs.Pairs.{zero_pair};
+ghost use Rattle.constellations.specs.Carriers.{bin_of, carries_data, data_carrier_of};
+ghost use Rattle.training_fields.specs.Bins.{carrier_in};
+ghost use Rattle.symbol_builder.specs.Carriers.{pilot_at, pilot_sign_of, symbol_bin};
+
+/// The bin of the carrier in a bin is that bin, and the carrier in the bin of a carrier is that carrier, for the bins
+/// below 64 and the carriers from -32 to 31 (own).
+pub fn carriers_and_bins()
+    ensures bin { (bin : ℕ) → bin < 64 → bin_of (carrier_in bin) ≡ bin }
+    ensures carrier { (carrier : ℤ) → neg_ℤ (pos 32) ≤ℤ carrier → carrier ≤ℤ pos 31
+        → carrier_in (bin_of carrier) ≡ carrier }
+{}
+
+/// A pilot's sign has size 1 on the carriers -21, -7, 7 and 21 and is 0 on all others, so it is 0 on every carrier with
+/// data (IEEE Std 802.11-2012, 18.3.5.9).
+pub fn carriers_of_pilots()
+    ensures signs { (carrier : ℤ) → unsigned_abs (pilot_sign_of carrier)
+        ≡ (if unsigned_abs carrier == 7 || unsigned_abs carrier == 21 then 1 else 0) }
+    ensures apart { (carrier : ℤ) → IsTrue (carries_data carrier) → pilot_sign_of carrier ≡ pos 0 }
+{}
+
+/// The bin of a data number's carrier has its point, and every other bin what its carrier carries as a pilot
+/// (IEEE Std 802.11-2012, 18.3.5.10).
+pub fn bins_of_a_symbol()
+    ensures data { (points : List Cx) (n k : ℕ) → k < 48
+        → symbol_bin points n (bin_of (data_carrier_of k)) ≡ slice_index_or points k zero_pair }
+    ensures others { (points : List Cx) (n bin : ℕ) → bin < 64
+        → ((k : ℕ) → k < 48 → bin_of (data_carrier_of k) ≢ bin)
+        → symbol_bin points n bin ≡ pilot_at n (carrier_in bin) }
+{}

@@ -1,0 +1,29 @@
+use Rattle.std.proofs.Common.{◌≡◌, ◌∙◌, ◌<◌, ◌^◌, length, ap, refl, arith, w64, to_z, of_z, pos, ◌*ℤ◌}
+use Rattle.fixed_complex.specs.Pairs.{zero_pair}
+use Rattle.butterfly64.specs.Samples.{by_256}
+use Rattle.butterfly64.specs.StagedSums.{entry}
+use Rattle.butterfly64.proofs.PlainSumLaws.{pair_of}
+use Rattle.training_fields.proofs.Filled.{none_filled, one_more, all_filled}
+use Rattle.training_fields.proofs.Parts.{times_256, by_256_within}
+use Rattle.training_fields.proofs.Places.{everywhere_within}
+use Rattle.training_fields.proofs.by_256.Goals as goal
+
+pub loop-bin-init : goal.loop-bin-init
+loop-bin-init c = none_filled zero_pair _ 64 _ c.told-carriers
+
+pub loop-bin-preserved : goal.loop-bin-preserved
+loop-bin-preserved c =
+    let carrier = entry c.args.carriers.now c.loop-bin.bin in
+    let within = everywhere_within 954 c.args.carriers.now c.requires c.loop-bin.bin in
+    one_more zero_pair (by_256 (entry c.args.carriers.now)) 64 _ _ _ c.loop-bin.invariant c.loop-bin-test.true
+    (pair_of _ _ (times_256 carrier.re within.re) (times_256 carrier.im within.im))
+
+pub returns-clause-carriers : goal.returns-clause-carriers
+returns-clause-carriers c = λ bin lt. c.loop-bin.invariant.each bin (omega arith)
+
+pub returns-clause-within : goal.returns-clause-within
+returns-clause-within c = record {
+  each = λ bin lt.
+      let below : bin < c.loop-bin.bin = omega (arith, c.loop-bin.invariant.long) in
+      rw (c.loop-bin.invariant.each bin below) (by_256_within _ (everywhere_within 954 c.args.carriers.now c.requires bin));
+}

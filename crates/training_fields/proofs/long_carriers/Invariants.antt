@@ -1,0 +1,8 @@
+use Rattle.fixed_complex.specs.Pairs.{zero_pair}
+use Rattle.training_fields.specs.Bins.{by_bin}
+use Rattle.training_fields.specs.Training.{long_carrier}
+use Rattle.training_fields.proofs.Filled.{IsFilled}
+use Rattle.training_fields.proofs.long_carriers.Given as goal
+
+abbrev pub invariant-loop-bin : goal.invariant-loop-bin
+invariant-loop-bin l = IsFilled zero_pair (by_bin long_carrier) 64 l.bin l.carriers
