@@ -1,0 +1,10 @@
+use Rattle.std.proofs.Common.{arith}
+use Rattle.std.proofs.lemmas.Grind.{common_steps}
+use Rattle.capture_files.proofs.Bytes.{samples_more}
+use Rattle.capture_files.proofs.samples_of.Goals as goal
+
+pub loop-k-preserved : goal.loop-k-preserved
+loop-k-preserved c = record {
+  bytes = rw c.in_ok-push.ensures.items (samples_more _ _ c.args.bytes.now c.loop-k.k c.loop-k.invariant.bytes c.sample_of.ensures);
+  count = grind (arith, common_steps);
+}
