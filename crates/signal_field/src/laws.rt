@@ -2,7 +2,7 @@
 
 ghost use Rattle.std.specs.Prelude.{◌≡◌, ◌%◌, ℕ, sum, take};
 ghost use Rattle.rate_table.specs.declared.Rate.{Rate};
-ghost use Rattle.signal_field.specs.Header.{header_bits_of};
+ghost use Rattle.signal_field.specs.Signal.{header_bits_of};
 
 /// The sum of bits 0 to 17 is even (IEEE Std 802.11-2012, 18.3.4.4).
 pub fn even_sum()

@@ -4,7 +4,7 @@
 ghost use Rattle.std.specs.Prelude.{◌≡◌, ◌%◌, ◌<◌, ◌≤◌, length, sum, take};
 ghost use Rattle.bit_lists.specs.Bits.{AreBits, IsBit};
 ghost use Rattle.conv_code.specs.Code.{code_of};
-ghost use Rattle.signal_field.specs.Header.{bits_of_number, header_bits_of};
+ghost use Rattle.signal_field.specs.Signal.{bits_of_number, even_parity, front_bits_of, header_bits_of};
 
 use conv_code::{branch, next_state};
 use rate_table::Rate;
@@ -32,11 +32,10 @@ pub fn header_bits(header: &Header) -> [u8; 24]
     ensures bits { AreBits result }
     ensures even { sum (take 18 result) % 2 ≡ 0 }
 {
+    let front = front_bits(header);
     let mut bits = [0; 24];
-    put_number(u16::from(header.rate.pattern()), &mut bits[..4]);
-    bits[4] = header.reserved;
-    put_number(header.length, &mut bits[5..17]);
-    bits[17] = parity(&bits[..17]);
+    bits[..17].copy_from_slice(&front);
+    bits[17] = parity(&front);
     bits
 }
 
@@ -61,6 +60,19 @@ pub fn header_code(header: &Header) -> [u8; 48]
     code
 }
 
+// Bits 0 to 16 of a header.
+fn front_bits(header: &Header) -> [u8; 17]
+    requires { IsBit header.now.reserved }
+    ensures list { result ≡ front_bits_of header.now.rate header.now.length header.now.reserved }
+    ensures bits { AreBits result }
+{
+    let mut bits = [0; 17];
+    put_number(u16::from(header.rate.pattern()), &mut bits[..4]);
+    bits[4] = header.reserved;
+    put_number(header.length, &mut bits[5..]);
+    bits
+}
+
 // Puts a number's bits, the least significant first, into all of a slice of at most 16 places.
 fn put_number(number: u16, bits: &mut [u8])
     requires { length bits.old ≤ 16 }
@@ -71,14 +83,16 @@ fn put_number(number: u16, bits: &mut [u8])
     }
 }
 
-// The sum of at most 255 bits, modulo 2.
+// The sum of bits modulo 2.
 fn parity(bits: &[u8]) -> u8
-    requires bits { AreBits bits.now }
-    requires short { length bits.now < 256 }
-    ensures { result ≡ sum bits.now % 2 }
+    requires { AreBits bits.now }
+    ensures { result ≡ even_parity bits.now }
 {
-    let ones: u8 = bits.iter().sum();
-    ones % 2
+    let mut parity = 0;
+    for bit in bits {
+        parity ^= *bit;
+    }
+    parity
 }
 
 #[cfg(test)]

@@ -14,8 +14,8 @@ abbrev pub rate_bits : Rate → List ℕ
 rate_bits rate = bits_of_number 4 (row_of rate).pattern
 
 -- bits 0 to 16: R1 to R4, the reserved bit, and the 12 bits of LENGTH, the least significant first
-abbrev pub bits_before_parity : Rate → ℕ → ℕ → List ℕ
-bits_before_parity rate length reserved = rate_bits rate ++ reserved ∷ bits_of_number 12 length
+unfoldable pub front_bits_of : Rate → ℕ → ℕ → List ℕ
+front_bits_of rate length reserved = rate_bits rate ++ reserved ∷ bits_of_number 12 length
 
 -- the bit behind others that makes the sum of all even
 abbrev pub even_parity : List ℕ → ℕ
@@ -24,5 +24,5 @@ even_parity bits = sum bits % 2
 -- the 24 bits: those, their even parity, and six zeros
 unfoldable pub header_bits_of : Rate → ℕ → ℕ → List ℕ
 header_bits_of rate length reserved =
-    let front = bits_before_parity rate length reserved in
+    let front = front_bits_of rate length reserved in
     front ++ even_parity front ∷ replicate 6 0

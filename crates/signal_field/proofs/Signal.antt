@@ -1,0 +1,77 @@
+-- The bits of a header.
+use Rattle.std.proofs.Common.{◌≡◌, ℕ, zero, suc, ◌+◌, ◌-◌, ◌*◌, ◌/◌, ◌%◌, ◌^◌, ◌<◌, ◌≤◌, List, [], ◌∷◌, ◌++◌, length, take, drop, map, set, refl, sym, ap, ◌∙◌, arith, append_assoc, append-nil}
+use Rattle.std.specs.Prelude.{sum, replicate}
+use Rattle.std.specs.Int.{bit_at}
+use Rattle.std.specs.Int.Bits.{bit_and}
+use Rattle.std.specs.List.{flat_map, range_with_len}
+use Rattle.std.proofs.lemmas.List.{length-set, take_more_set}
+use Rattle.std.proofs.lemmas.List.Elements.{All-append, All-cons, All-map, All-nil}
+use Rattle.std.proofs.lemmas.List.FromFn.{map-range_with_len_more}
+use Rattle.std.proofs.lemmas.Nat.Bits.{bit_at-lt, shr_and_one}
+use Rattle.bit_lists.specs.Bits.{AreBits, IsBit}
+use Rattle.conv_code.specs.Code.{parities, parity_a, parity_b}
+use Rattle.conv_code.proofs.Coded.{code_more}
+use Rattle.rate_table.specs.declared.Rate.{Rate}
+use Rattle.rate_table.specs.Table.{row_of}
+use borrow.Rule.Slice.PartMut.{put_mid}
+use Rattle.signal_field.specs.Signal.{front_bits_of, bits_of_number, even_parity, header_bits_of}
+
+-- the sum of bits 0 to 17 is even
+pub even_sum : (rate : Rate) (length reserved : ℕ) → sum (take 18 (header_bits_of rate length reserved)) % 2 ≡ 0
+unfolding header_bits_of front_bits_of bits_of_number
+even_sum rate length reserved = omega arith
+
+-- the bits of a number are bits
+AreBits-bits_of_number : (count number : ℕ) → AreBits (bits_of_number count number)
+unfolding bits_of_number
+AreBits-bits_of_number count number =
+    All-map IsBit (bit_at number) (range_with_len 0 count) (λ k d lt. bit_at-lt number _)
+
+-- bits 0 to 16 are bits
+pub AreBits-front_bits_of : (rate : Rate) (length reserved : ℕ) → IsBit reserved → AreBits (front_bits_of rate length reserved)
+unfolding front_bits_of
+AreBits-front_bits_of rate length reserved is =
+    All-append IsBit (bits_of_number 4 (row_of rate).pattern) (reserved ∷ bits_of_number 12 length) (AreBits-bits_of_number 4 (row_of rate).pattern) (All-cons IsBit reserved (bits_of_number 12 length) is (AreBits-bits_of_number 12 length))
+
+-- zeros are bits
+AreBits-zeros : (count : ℕ) → AreBits (replicate count 0)
+AreBits-zeros zero = All-nil IsBit
+AreBits-zeros (suc count) = All-cons IsBit 0 (replicate count 0) (omega arith) (AreBits-zeros count)
+
+-- all 24 bits are bits
+pub AreBits-header_bits_of : (rate : Rate) (length reserved : ℕ) → IsBit reserved → AreBits (header_bits_of rate length reserved)
+unfolding header_bits_of
+AreBits-header_bits_of rate length reserved is =
+    let front = front_bits_of rate length reserved in
+    let parity : IsBit (even_parity front) = omega arith in
+    All-append IsBit front (even_parity front ∷ replicate 6 0) (AreBits-front_bits_of rate length reserved is) (All-cons IsBit (even_parity front) (replicate 6 0) parity (AreBits-zeros 6))
+
+-- bits 0 to 16 as they are put
+pub front_put : (rate : Rate) (length' reserved pattern : ℕ) (first second : List ℕ) → pattern ≡ (row_of rate).pattern → first ≡ bits_of_number 4 pattern → second ≡ bits_of_number (length (take 12 (drop 5 (set (first ++ replicate 13 0) 4 reserved)))) length' → put_mid 5 12 (set (first ++ replicate 13 0) 4 reserved) second ≡ front_bits_of rate length' reserved
+unfolding front_bits_of bits_of_number
+front_put rate length' reserved pattern first second at_pattern at_first at_second = rw (at_second, at_first, at_pattern) refl
+
+-- the parity behind them
+pub parity_put : (rate : Rate) (length' reserved parity : ℕ) (front : List ℕ) → front ≡ front_bits_of rate length' reserved → parity ≡ even_parity front → set (front ++ replicate 7 0) 17 parity ≡ header_bits_of rate length' reserved
+unfolding front_bits_of bits_of_number header_bits_of
+parity_put rate length' reserved parity front at_front at_parity = rw (at_parity, at_front) refl
+
+-- a header has 24 bits
+pub length-header_bits_of : (rate : Rate) (length' reserved : ℕ) → length (header_bits_of rate length' reserved) ≡ 24
+unfolding header_bits_of front_bits_of bits_of_number
+length-header_bits_of rate length' reserved = refl
+
+-- one bit more of a number
+pub number_more : (number k : ℕ) (xs : List ℕ) → k < length xs → take k xs ≡ bits_of_number k number → take (k + 1) (set xs k (bit_and (number / 2 ^ k) 1)) ≡ bits_of_number (k + 1) number
+unfolding bits_of_number
+number_more number k xs lt before =
+    rw (take_more_set xs k (bit_and (number / 2 ^ k) 1) lt, before, shr_and_one number k) (sym (map-range_with_len_more (bit_at number) 0 k k (omega arith)))
+
+-- one place more of a code
+pub coded_more : (u : List ℕ) (k a b : ℕ) (xs : List ℕ) → 2 * k + 1 < length xs → a ≡ parity_a u k → b ≡ parity_b u k → take (2 * k) xs ≡ flat_map (parities u) (range_with_len 0 k) → take (2 * (k + 1)) (set (set xs (2 * k) a) (2 * k + 1) b) ≡ flat_map (parities u) (range_with_len 0 (k + 1))
+coded_more u k a b xs lt at_a at_b before =
+    let end : 2 * (k + 1) ≡ 2 * k + 1 + 1 = omega arith in
+    let kept : length (set xs (2 * k) a) ≡ length xs = length-set xs (2 * k) a in
+    let second = take_more_set (set xs (2 * k) a) (2 * k + 1) b (omega arith) in
+    let first = take_more_set xs (2 * k) a (omega arith) in
+    rw (end, second, first, before, code_more u k, at_a, at_b) (append_assoc (flat_map (parities u) (range_with_len 0 k)) (parity_a u k ∷ []) (parity_b u k ∷ []))
