@@ -4,7 +4,7 @@
 ghost use Rattle.std.specs.Prelude.{◌≡◌, ◌%◌, ◌*◌, ◌≤◌, ◌^◌, ◌++◌, ℕ, length, take, drop, IfOk, OnOk, OnErr, IsErrOf, alloc_error};
 ghost use Rattle.modem_ports.specs.Counts.{Rose};
 ghost use Rattle.modem_ports.specs.Told.{Gives, GivesAtMost, GivesExactly, IsAtEnd, Takes, TakesPrefix};
-ghost use Rattle.capture_files.specs.Captures.{IsTorn, bytes_of_sample, bytes_of_samples};
+ghost use Rattle.capture_files.specs.Captures.{AreSamples, IsSample, IsTorn, bytes_of_sample, bytes_of_samples};
 ghost use Rattle.capture_files.specs.declared.CaptureFault.TheVariants.{NoMemory};
 
 use byteorder::{ByteOrder, LittleEndian};
@@ -58,13 +58,11 @@ const PIECE: usize = 4096;
 /// comes exactly where the input ended after so many bytes, and 4 does not divide them; none are left either. `Long`
 /// comes exactly where byte 67108865 was taken, and no more bytes are ever taken. `Failed` comes only where the
 /// source's count of faults rose in this call. `NoMemory` is free.
-pub fn read_capture<S: Source>(
-    alloc: Global,
-    source: &mut S,
-) -> Result<Vec<Sample>, CaptureFault>
+pub fn read_capture<S: Source>(alloc: Global, source: &mut S) -> Result<Vec<Sample>, CaptureFault>
     ensures whole { IfOk result
         (λ samples. Gives (S.left source.old) (bytes_of_samples samples.items) (S.left source.new)) }
     ensures end { IfOk result (λ _. IsAtEnd (S.left source.new)) }
+    ensures samples { IfOk result (λ samples. AreSamples samples.items) }
     ensures within { IfOk result (λ samples. length samples.items ≤ 2 ^ 24) }
     ensures torn { (bytes : ℕ) → IsErrOf result (CaptureFault.Torn bytes) → IsTorn bytes }
     ensures torn_after { (bytes : ℕ) → IsErrOf result (CaptureFault.Torn bytes)
@@ -100,6 +98,7 @@ pub fn read_capture<S: Source>(
 fn samples_of(alloc: Global, bytes: &[u8]) -> Result<Vec<Sample>, AllocError>
     requires { length bytes.now % 4 ≡ 0 }
     ensures bytes { IfOk result (λ samples. bytes_of_samples samples.items ≡ bytes.now) }
+    ensures samples { IfOk result (λ samples. AreSamples samples.items) }
     ensures count { IfOk result (λ samples. 4 * length samples.items ≡ length bytes.now) }
 {
     let count = bytes.len() / SAMPLE;
@@ -113,7 +112,8 @@ fn samples_of(alloc: Global, bytes: &[u8]) -> Result<Vec<Sample>, AllocError>
 // The sample of four bytes.
 fn sample_of(bytes: &[u8]) -> Sample
     requires { length bytes.now ≡ 4 }
-    ensures { bytes_of_sample result ≡ bytes.now }
+    ensures bytes { bytes_of_sample result ≡ bytes.now }
+    ensures sample { IsSample result }
 {
     Sample {
         i: LittleEndian::read_i16(bytes),
