@@ -1,10 +1,11 @@
-use Rattle.std.proofs.Common.{◌≡◌, ◌∙◌, ◌*◌, ◌<◌, ◌≤◌, refl, arith, rules, sym, length}
+use Rattle.std.proofs.Common.{◌≡◌, ◌∙◌, ◌*◌, ◌<◌, ◌≤◌, refl, arith, rules, sym, ap, ℕ, length}
 use Rattle.std.proofs.lemmas.List.{length-set, take_all}
-use Rattle.conv_code.specs.Code.{code_of, earlier, parity_a, parity_b}
+use Rattle.std.specs.List.{flat_map, range_with_len}
+use Rattle.conv_code.specs.Code.{code_of, earlier, parities, parity_a, parity_b}
 use Rattle.conv_code.specs.Trellis.{state_before}
 use Rattle.conv_code.proofs.Coded.{AreBits-code_of}
 use Rattle.signal_field.specs.Signal.{header_bits_of}
-use Rattle.signal_field.proofs.Signal.{coded_more, length-header_bits_of}
+use Rattle.signal_field.proofs.Signal.{code_whole, coded_more, length-header_bits_of}
 use Rattle.signal_field.proofs.header_code.Goals as goal
 
 pub loop-k-init : goal.loop-k-init
@@ -28,13 +29,10 @@ loop-k-preserved c =
 
 pub returns-clause-list : goal.returns-clause-list
 returns-clause-list c =
-    let u = header_bits_of c.args.header.now.rate c.args.header.now.length c.args.header.now.reserved in
-    let is : c.header_bits-bits.result ≡ u = c.header_bits-bits.ensures.list in
-    let last : c.loop-k.k ≡ 24 = omega (arith, c.loop-k.auto.k-end) in
-    let long : length u ≡ 24 = length-header_bits_of c.args.header.now.rate c.args.header.now.length c.args.header.now.reserved in
-    let whole = take_all 48 c.loop-k.code (omega (arith, c.loop-k.invariant.long)) in
-    let coded = rw (last, is, whole) at c.loop-k.invariant.coded in
-    rw (coded, long) refl
+    let u = c.header_bits-bits.result in
+    let long : length u ≡ 24 = rw c.header_bits-bits.ensures.list (length-header_bits_of c.args.header.now.rate c.args.header.now.length c.args.header.now.reserved) in
+    let whole : c.loop-k.code ≡ code_of u = code_whole u c.loop-k.code c.loop-k.k long c.loop-k.invariant.long (omega (arith, c.loop-k.auto.k-end)) c.loop-k.invariant.coded in
+    rw c.header_bits-bits.ensures.list at whole
 
 pub returns-clause-bits : goal.returns-clause-bits
 returns-clause-bits c = rw (returns-clause-list c) (AreBits-code_of _)
