@@ -1,8 +1,7 @@
 -- Samples and their bytes.
-use Rattle.std.proofs.Common.{◌≡◌, ℕ, ◌+◌, ◌-◌, ◌*◌, ◌^◌, ◌<◌, ◌≤◌, List, [], ◌∷◌, ◌++◌, length, take, drop, ℤ, Fits, FitsSigned, refl, sym, ap, ◌∙◌, arith, length-append, append_assoc, append-nil, get_or, All}
+use Rattle.std.proofs.Common.{◌≡◌, ℕ, ◌+◌, ◌-◌, ◌*◌, ◌^◌, ◌<◌, ◌≤◌, List, [], ◌∷◌, ◌++◌, length, take, drop, ℤ, Fits, FitsSigned, refl, sym, ap, ◌∙◌, arith, length-append, append_assoc, append-nil, get_or}
 use Rattle.std.specs.Prelude.{slice_index}
 use Rattle.std.specs.Int.{w16, byte_at, bytes_low_first, cast_signed, cast_unsigned}
-use Rattle.std.specs.List.{flat_map}
 use Rattle.std.proofs.lemmas.Int.{of_z-to_z, to_z-of_z}
 use Rattle.std.proofs.lemmas.Grind.{common_steps, flat_map-append}
 use Rattle.std.proofs.lemmas.List.{drop_all, length-take-le, take_all, take_at, take_more}

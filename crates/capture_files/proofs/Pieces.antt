@@ -1,7 +1,6 @@
 -- Pieces of a capture that a sink takes one after another.
-use Rattle.std.proofs.Common.{◌≡◌, ℕ, ◌+◌, ◌≤◌, List, [], ◌∷◌, ◌++◌, length, min, take, Option, arith, refl, sym, ap, ◌∙◌, append_assoc, append-nil}
+use Rattle.std.proofs.Common.{◌≡◌, ℕ, ◌+◌, List, ◌++◌, length, min, take, Option, arith, refl, sym, ap, ◌∙◌, append_assoc}
 use Rattle.std.proofs.lemmas.Grind.{common_steps, flat_map-append}
-use Rattle.std.specs.List.{flat_map}
 use Rattle.fixed_complex.specs.declared.Sample.{Sample}
 use Rattle.modem_ports.specs.Told.{Takes, TakesPrefix}
 use Rattle.modem_ports.proofs.Pieces.{Takes-append}

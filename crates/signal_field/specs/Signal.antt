@@ -1,5 +1,5 @@
 -- The bits of the SIGNAL field (IEEE Std 802.11-2012, 18.3.4).
-use Rattle.std.specs.Prelude.{ℕ, ◌%◌, List, [], ◌∷◌, ◌++◌, map, replicate, sum}
+use Rattle.std.specs.Prelude.{ℕ, ◌%◌, List, ◌∷◌, ◌++◌, map, replicate, sum}
 use Rattle.std.specs.Int.{bit_at}
 use Rattle.std.specs.List.{range_with_len}
 use Rattle.rate_table.specs.declared.Rate.{Rate}

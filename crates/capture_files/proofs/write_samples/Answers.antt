@@ -1,4 +1,4 @@
-use Rattle.std.proofs.Common.{arith, rules}
+use Rattle.std.proofs.Common.{rules}
 use Rattle.capture_files.specs.Captures.{bytes_of_samples}
 use Rattle.modem_ports.specs.Told.{TakesPrefix}
 use Rattle.capture_files.proofs.Pieces.{TakesUpTo-more, TakesUpTo-prefix}

@@ -1,10 +1,8 @@
-use Rattle.std.proofs.Common.{◌≡◌, ◌∙◌, ◌*◌, ◌<◌, ◌≤◌, refl, arith, rules, sym, ap, ℕ, length}
-use Rattle.std.proofs.lemmas.List.{length-set, take_all}
-use Rattle.std.specs.List.{flat_map, range_with_len}
-use Rattle.conv_code.specs.Code.{code_of, earlier, parities, parity_a, parity_b}
+use Rattle.std.proofs.Common.{◌≡◌, ◌∙◌, ◌<◌, refl, arith, length}
+use Rattle.std.proofs.lemmas.List.{length-set}
+use Rattle.conv_code.specs.Code.{code_of, earlier, parity_a, parity_b}
 use Rattle.conv_code.specs.Trellis.{state_before}
 use Rattle.conv_code.proofs.Coded.{AreBits-code_of}
-use Rattle.signal_field.specs.Signal.{header_bits_of}
 use Rattle.signal_field.proofs.Signal.{code_whole, coded_more, length-header_bits_of}
 use Rattle.signal_field.proofs.header_code.Goals as goal
 

@@ -1,4 +1,4 @@
-use Rattle.std.proofs.Common.{◌≡◌, take, length}
+use Rattle.std.proofs.Common.{◌≡◌, take}
 use Rattle.signal_field.specs.Signal.{bits_of_number}
 use Rattle.signal_field.proofs.put_number.Given as goal
 
