@@ -122,7 +122,8 @@ fn sample_of(bytes: &[u8]) -> Sample
 }
 
 /// Writes samples to a sink: four bytes a sample, I and then Q, signed numbers of 16 bits, the low byte first (own).
-/// The sink is handed pieces of 4096 bytes, only the last one shorter. Takes no memory.
+/// The sink is handed pieces of 4096 bytes, only the last one shorter, and again what it leaves of a piece. Takes no
+/// memory.
 ///
 /// After `Ok` the told bytes are those before followed by all the samples' bytes. `Failed` comes only where the sink's
 /// count of faults rose in this call, and then the told bytes are those before followed by a prefix.
