@@ -1,4 +1,4 @@
-mod EightBits
+pub mod EightBits
 mod Characters
 pub mod Texts
 mod Differences

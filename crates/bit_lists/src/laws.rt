@@ -1,8 +1,14 @@
-//! What holds of texts of bits. Its functions do nothing: what each ensures is the law.
+//! What holds of octets and of texts of bits. Its functions do nothing: what each ensures is the law.
 
-ghost use Rattle.std.specs.Prelude.{◌≡◌, ◌⊎◌, ℕ, List};
-ghost use Rattle.bit_lists.specs.Bits.{AreBits};
+ghost use Rattle.std.specs.Prelude.{◌≡◌, ◌⊎◌, ◌%◌, ℕ, List, length};
+ghost use Rattle.bit_lists.specs.Bits.{AreBits, AreOctets, bits_of_octets, octets_of_bits};
 ghost use Rattle.bit_lists.specs.Text.{IsBadPlace, IsTextOf, text_of_bits};
+
+/// Octets are those of their bits, and bits, eight by eight, those of their octets (own).
+pub fn octets_and_bits()
+    ensures octets { (octets : List ℕ) → AreOctets octets → octets_of_bits (bits_of_octets octets) ≡ octets }
+    ensures bits { (bits : List ℕ) → AreBits bits → length bits % 8 ≡ 0 → bits_of_octets (octets_of_bits bits) ≡ bits }
+{}
 
 /// A text has bits or a bad place, one of the two, and only one list of bits or one bad place; what is written of bits
 /// has these bits (own).

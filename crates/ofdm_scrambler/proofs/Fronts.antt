@@ -1,10 +1,10 @@
 -- The number whose sequence begins with seven bits.
-use Rattle.std.proofs.Common.{◌≡◌, ℕ, zero, suc, ◌+◌, ◌*◌, ◌/◌, ◌%◌, ◌^◌, ◌<◌, Bool, true, false, ◌&&◌, nat_eq, List, [], ◌∷◌, length, map, get_or, ap, sym, ◌∙◌, refl, arith, lit<, inl, inr}
+use Rattle.std.proofs.Common.{◌≡◌, ℕ, zero, suc, ◌+◌, ◌*◌, ◌<◌, ◌≤◌, Bool, true, false, ◌&&◌, nat_eq, List, [], ◌∷◌, length, map, get_or, ap, sym, ◌∙◌, refl, arith, lit<, inl, inr}
 use Rattle.std.proofs.lemmas.Bool.{cases_eq, eqb-true}
 use Rattle.std.proofs.lemmas.List.{ext_get_or}
 use Rattle.std.specs.List.{range_with_len}
 use Rattle.std.specs.Int.{bit_at}
-use Rattle.bit_lists.specs.Bits.{exclusive_or, IsBit}
+use Rattle.bit_lists.specs.Bits.{exclusive_or, AreBits}
 use Rattle.ofdm_scrambler.specs.Sequence.{from_minus_seven, scrambler_sequence}
 
 -- a test passes at each place below n
@@ -90,9 +90,14 @@ front_is front long bits =
     let b3 = bits 3 (lit< tt) in
     let b4 = bits 4 (lit< tt) in
     let b5 = bits 5 (lit< tt) in
-    let b6 = bits 6 (lit< tt) in
-    (k, (omega arith, ext_get_or 0 front (seven_bits k) long
-      (λ i lt. at_seven (λ i. get_or front i 0 ≡ get_or (seven_bits k) i 0) (omega arith) (omega arith) (omega arith) (omega arith) (omega arith) (omega arith) (omega arith) i (omega arith))))
+    let b6 = bits 6 (lit< tt) in (
+      k,
+      (
+        omega arith,
+        ext_get_or 0 front (seven_bits k) long
+            (λ i lt. at_seven (λ i. get_or front i 0 ≡ get_or (seven_bits k) i 0) (omega arith) (omega arith) (omega arith) (omega arith) (omega arith) (omega arith) (omega arith) i (omega arith)),
+      ),
+    )
 
 -- the sequence of the number begins with the front
 pub begins_with : (front : List ℕ) → length front ≡ 7 → ((i : ℕ) → i < 7 → get_or front i 0 < 2) → scrambler_sequence (number_of_front front) 7 ≡ front
@@ -102,3 +107,17 @@ begins_with front long bits =
 
 pub number_is : (front : List ℕ) (x1 x2 x3 x4 x5 x6 x7 : ℕ) → x1 ≡ exclusive_or (get_or front 6 0) (get_or front 2 0) → x2 ≡ exclusive_or (get_or front 5 0) (get_or front 1 0) → x3 ≡ exclusive_or (get_or front 4 0) (get_or front 0 0) → x4 ≡ exclusive_or (get_or front 3 0) x1 → x5 ≡ exclusive_or (get_or front 2 0) x2 → x6 ≡ exclusive_or (get_or front 1 0) x3 → x7 ≡ exclusive_or (get_or front 0 0) x4 → x1 + 2 * x2 + 4 * x3 + 8 * x4 + 16 * x5 + 32 * x6 + 64 * x7 ≡ number_of_front front
 number_is front x1 x2 x3 x4 x5 x6 x7 e1 e2 e3 e4 e5 e6 e7 = omega arith
+
+-- a front of seven bits gives a number of seven bits
+number_is_small : (front : List ℕ) → number_of_front front ≤ 127
+number_is_small front = omega arith
+
+-- a front names one number
+pub one_number : (m n : ℕ) → m ≤ 127 → n ≤ 127 → scrambler_sequence m 7 ≡ scrambler_sequence n 7 → m ≡ n
+one_number m n small_m small_n same =
+    sym (number_of_sequence m (omega arith)) ∙ ap number_of_front same ∙ number_of_sequence n (omega arith)
+
+-- and every front of seven bits names some
+pub some_number : (front : List ℕ) → AreBits front → length front ≡ 7 → (number : ℕ) × ((number ≤ 127) × (scrambler_sequence number 7 ≡ front))
+some_number front bits long =
+    (number_of_front front, (number_is_small front, begins_with front long (λ i lt. bits i 0 (omega arith))))

@@ -110,7 +110,7 @@ scrambled_by_zero bits are_bits =
     let long = length-map-range_with_len changed 0 (length bits) in
     ext_get_or 0 (scrambled 0 bits) bits long
     (λ n lt. let is_bit : slice_index bits n < 2 = are_bits n 0 (omega (arith, long)) in
-      get_or-map-range_with_len changed 0 (length bits) n n 0 (omega (arith, long)) (omega arith) ∙ (let z = sequence_of_zero (n + 7) in omega arith))
+    get_or-map-range_with_len changed 0 (length bits) n n 0 (omega (arith, long)) (omega arith) ∙ (let z = sequence_of_zero (n + 7) in omega arith))
 
 length-scrambled : (number : ℕ) (bits : List ℕ) → length (scrambled number bits) ≡ length bits
 length-scrambled number bits = length-map-range_with_len (λ n. exclusive_or (slice_index bits n) (scrambler_bit number n)) 0 (length bits)
@@ -128,8 +128,8 @@ scrambled_twice number bits are_bits =
     let long = length-scrambled number (scrambled number bits) ∙ length-scrambled number bits in
     ext_get_or 0 (scrambled number (scrambled number bits)) bits long
     (λ n lt.
-      let inside : n < length bits = omega (arith, long) in
-      let between : n < length (scrambled number bits) = omega (arith, length-scrambled number bits) in
-      scrambled_at number (scrambled number bits) n between
-      ∙ ap (λ bit. exclusive_or bit (scrambler_bit number n)) (scrambled_at number bits n inside)
-      ∙ twice_is (slice_index bits n) (scrambler_bit number n) (are_bits n 0 inside))
+    let inside : n < length bits = omega (arith, long) in
+    let between : n < length (scrambled number bits) = omega (arith, length-scrambled number bits) in
+    scrambled_at number (scrambled number bits) n between
+    ∙ ap (λ bit. exclusive_or bit (scrambler_bit number n)) (scrambled_at number bits n inside)
+    ∙ twice_is (slice_index bits n) (scrambler_bit number n) (are_bits n 0 inside))

@@ -1,2 +1,2 @@
-mod LastSeven
-mod Fronts
+pub mod LastSeven
+pub mod Fronts

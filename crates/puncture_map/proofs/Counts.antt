@@ -1,5 +1,5 @@
 -- How many places are kept: one for each step, and one more for each period that is begun.
-use Rattle.std.proofs.Common.{◌≡◌, ℕ, ◌+◌, ◌*◌, zero, suc, Bool, true, false, cond, [], ◌∷◌, ◌++◌, length, refl, sym, ap, ◌∙◌, arith}
+use Rattle.std.proofs.Common.{◌≡◌, ℕ, ◌+◌, ◌-◌, ◌*◌, ◌<◌, ◌≤◌, zero, suc, Bool, true, false, cond, [], ◌∷◌, ◌++◌, length, refl, sym, ap, ◌∙◌, arith}
 use Rattle.std.specs.List.{filter, range_with_len}
 use Rattle.std.proofs.lemmas.List.{map-id, length-append}
 use Rattle.std.proofs.lemmas.List.FromFn.{filter_of_map_range_with_len_more}
@@ -27,7 +27,7 @@ length-cond : (b : Bool) (n : ℕ) → length (cond b (n ∷ []) []) ≡ cond b 
 length-cond true n = refl
 length-cond false n = refl
 
-length-kept_places-more : (rate : CodeRate) (n : ℕ) → length (kept_places rate (n + 1)) ≡ length (kept_places rate n) + cond (is_kept rate n) 1 0
+pub length-kept_places-more : (rate : CodeRate) (n : ℕ) → length (kept_places rate (n + 1)) ≡ length (kept_places rate n) + cond (is_kept rate n) 1 0
 length-kept_places-more rate n =
     ap length (kept_places-more rate n)
     ∙ length-append (kept_places rate n) (cond (is_kept rate n) (n ∷ []) [])
@@ -76,3 +76,23 @@ kept_count-symbols r rate symbols same =
     kept_count-by_periods rate (symbols * (row_of r).field_bits)
     ∙ ap (λ code_rate. count_by_periods code_rate (symbols * (row_of r).field_bits)) (sym same)
     ∙ count_by_periods-symbols r symbols
+
+-- kept places rise in number
+places_rise : (rate : CodeRate) (place more : ℕ) → length (kept_places rate place) ≤ length (kept_places rate (place + more))
+places_rise rate place zero = let same : place + zero ≡ place = omega arith in rw same (omega arith)
+places_rise rate place (suc more) =
+    let next : place + suc more ≡ place + more + 1 = omega arith in
+    rw next (omega (arith, places_rise rate place more, length-kept_places-more rate (place + more)))
+
+pub kept_count-rises : (rate : CodeRate) (fewer steps : ℕ) → fewer ≤ steps → kept_count rate fewer ≤ kept_count rate steps
+kept_count-rises rate fewer steps few =
+    let whole : 2 * fewer + (2 * steps - 2 * fewer) ≡ 2 * steps = omega arith in
+    rw whole at (places_rise rate (2 * fewer) (2 * steps - 2 * fewer))
+
+-- a kept place below so many steps has fewer kept places before it
+pub kept_before_place : (rate : CodeRate) (place steps : ℕ) → place < 2 * steps → is_kept rate place ≡ true → length (kept_places rate place) < kept_count rate steps
+kept_before_place rate place steps within kept =
+    let whole : place + 1 + (2 * steps - (place + 1)) ≡ 2 * steps = omega arith in
+    let up_to = rw whole at (places_rise rate (place + 1) (2 * steps - (place + 1))) in
+    let more : length (kept_places rate (place + 1)) ≡ length (kept_places rate place) + 1 = length-kept_places-more rate place ∙ ap (λ b. length (kept_places rate place) + cond b 1 0) kept in
+    omega arith

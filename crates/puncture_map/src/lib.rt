@@ -2,6 +2,8 @@
 //! has two places, A and then B. Periods run through the whole field without a restart.
 #![tactic(auto)]
 
+pub mod laws;
+
 ghost use Rattle.std.specs.Prelude.{◌≡◌, ℕ, ◌*◌, ◌≤◌, ◌^◌, IfOk, length, vec_len};
 ghost use Rattle.bit_lists.specs.Bits.{AreBits};
 ghost use Rattle.puncture_map.specs.Kept.{is_kept, kept_count, kept_list, period_of, count_by_periods};

@@ -1,6 +1,7 @@
 mod Branches
 mod ByLanes
 mod Closing
+pub mod Existing
 mod Holding
 mod Leading
 mod Merge

@@ -23,7 +23,7 @@ reached_from_high n s h from =
     record { list = from.list ++ s % 2 ∷ []; leads = rw (goes_to_high s h) at (leads_push n (s / 2 + 32) (s % 2) from.list from.leads (omega arith)) }
 
 -- and from no other
-unreached_from_neither : (n s : ℕ) → IsUnreached n (s / 2) → IsUnreached n (s / 2 + 32) → IsUnreached (n + 1) s
+pub unreached_from_neither : (n s : ℕ) → IsUnreached n (s / 2) → IsUnreached n (s / 2 + 32) → IsUnreached (n + 1) s
 unreached_from_neither n s low high w leads =
     let c = cut n s w leads in
     let from = came_from c.before c.input s (leads_lt c.leads) c.bit c.after in

@@ -11,17 +11,21 @@ use Rattle.survivor_memory.proofs.Merge.{IsSurvivor}
 use Rattle.survivor_memory.proofs.Sums.{cost_is, cost_from-nil}
 
 -- the survivor of state 0 is the empty list
-nil_survives : (rows : List ℕ) → IsSurvivor 0 0 [] (followed rows 0 0) 0
-unfolding followed
-nil_survives rows = record {
+pub nil_survives : IsSurvivor 0 0 [] [] 0
+nil_survives = record {
   of_kind = leads-nil;
   costs = cost_is [] [] ∙ cost_from-nil 0 [];
   none_less = λ v leads. omega arith;
   comes_first = λ v leads same. inl (sym (nil_from_length v leads.long));
 }
 
+-- which back bits give
+followed_survives : (rows : List ℕ) → IsSurvivor 0 0 [] (followed rows 0 0) 0
+unfolding followed
+followed_survives rows = nil_survives
+
 -- no other state is reached
-leads_at_start : (s : ℕ) (u : List ℕ) → LeadsTo 0 s u → s ≡ 0
+pub leads_at_start : (s : ℕ) (u : List ℕ) → LeadsTo 0 s u → s ≡ 0
 leads_at_start s u leads = sym leads.ends ∙ state_before-zero u
 
 pub holds_none : (memory : MemoryView) → memory.entries ≡ 0 ∷ replicate 63 255 → memory.base ≡ 0 → memory.rows ≡ [] → Holds memory []
@@ -30,7 +34,7 @@ holds_none memory entries base rows =
     record {
       held = rw rows;
       light = All-nil IsLight;
-      survivors = λ s u leads. rw (leads_at_start s u leads, first, base) (nil_survives memory.rows);
+      survivors = λ s u leads. rw (leads_at_start s u leads, first, base) (followed_survives memory.rows);
       no_list = λ s below none. elim (cases_eq s 0) [
         | inl e ↦ absurd (none [] (rw e leads-nil))
         | inr other ↦ rw entries (full_behind s below other)

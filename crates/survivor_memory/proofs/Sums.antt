@@ -38,7 +38,7 @@ cost_from-append start (pair ∷ ps) qs u =
 
 -- the cost of pairs depends only on the places that they have
 pub cost_from_same : (n : ℕ) (u w : List ℕ) → SameBelow n u w → (start : ℕ) (pairs : List PairCosts) → start + length pairs ≤ n → cost_from start pairs u ≡ cost_from start pairs w
-cost_from_same n u w same start [] h = rw (cost_from-nil, cost_from-nil)
+cost_from_same n u w same start [] h = rw (cost_from-nil start u, cost_from-nil start w)
 cost_from_same n u w same start (pair ∷ pairs) h =
     rw (cost_from-cons start pair pairs u, cost_from-cons start pair pairs w, parity_a_same n u w same start (omega arith), parity_b_same n u w same start (omega arith), cost_from_same n u w same (start + 1) pairs (omega arith))
 

@@ -7,7 +7,9 @@ use Rattle.survivor_memory.specs.declared.PairCosts.{PairCosts}
 
 -- what a pair costs where the code has the bits a and b
 unfoldable pub price : PairCosts → ℕ → ℕ → ℕ
-price pair a b = (if a == 0 then pair.first_zero else pair.first_one) + (if b == 0 then pair.second_zero else pair.second_one)
+price pair a b =
+    (if a == 0 then pair.first_zero else pair.first_one)
+    + (if b == 0 then pair.second_zero else pair.second_one)
 
 -- the cost of a list of bits: the sum, over the pairs, of what each costs at the two parities of its place
 unfoldable pub cost : List PairCosts → List ℕ → ℕ

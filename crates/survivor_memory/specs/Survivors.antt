@@ -35,9 +35,11 @@ pub record Holds (memory : MemoryView) (pairs : List PairCosts) : Type 0 where
   -- a state that some list leads to: its entry and the base are the least cost of those lists, and its back bits give the
   -- first of those of that cost
   pub survivors : (state : ℕ) (u : List ℕ) → LeadsTo (length pairs) state u
-      → IsFirstOfLeast (LeadsTo (length pairs) state) (cost pairs) (followed memory.rows (length pairs) state) (slice_index memory.entries state + memory.base)
+      → IsFirstOfLeast (LeadsTo (length pairs) state) (cost pairs) (followed memory.rows (length pairs) state)
+      (slice_index memory.entries state + memory.base)
   -- any other state
-  pub no_list : (state : ℕ) → state < 64 → ((u : List ℕ) → ¬ LeadsTo (length pairs) state u) → slice_index memory.entries state ≡ 255
+  pub no_list : (state : ℕ) → state < 64 → ((u : List ℕ) → ¬ LeadsTo (length pairs) state u)
+      → slice_index memory.entries state ≡ 255
   -- the least entry is 0
   pub least_is_zero : (state : ℕ) × (state < 64) × (slice_index memory.entries state ≡ 0)
 

@@ -1,2 +1,2 @@
-mod Decisions
-mod Distances
+pub mod Decisions
+pub mod Distances

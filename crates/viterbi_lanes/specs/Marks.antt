@@ -31,7 +31,12 @@ abbrev pub cost_at : Mark → ℕ → ℕ
 cost_at mark bit = if differs mark bit then 1 else 0
 
 abbrev pub costs_of : Mark × Mark → PairCosts
-costs_of (a, b) = record { first_zero = cost_at a 0; first_one = cost_at a 1; second_zero = cost_at b 0; second_one = cost_at b 1 }
+costs_of (a, b) = record {
+  first_zero = cost_at a 0;
+  first_one = cost_at a 1;
+  second_zero = cost_at b 0;
+  second_one = cost_at b 1;
+}
 
 -- a trellis stands for pairs of marks: its survivors are those of their costs
 abbrev pub StandsFor : MemoryView → List (Mark × Mark) → Type 0

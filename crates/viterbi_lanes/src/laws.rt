@@ -1,13 +1,16 @@
 //! What holds of distances, of nearest lists and of the marks of decisions. The functions do nothing: what each ensures
 //! is the law.
-ghost use Rattle.std.specs.Prelude.{◌≡◌, ℕ, ◌+◌, List, [], ◌∷◌, ◌++◌, length, map};
+ghost use Rattle.std.specs.Prelude.{◌≡◌, ℕ, ◌+◌, ◌≤◌, List, [], ◌∷◌, ◌++◌, length, map, slice_index, take};
 ghost use Rattle.bit_lists.specs.Bits.{AreBits};
 ghost use Rattle.rate_table.specs.declared.CodeRate.{CodeRate};
+ghost use Rattle.puncture_map.specs.Kept.{kept_count};
 ghost use Rattle.survivor_memory.specs.Costs.{cost};
-ghost use Rattle.survivor_memory.specs.Nearest.{IsNearest};
+ghost use Rattle.survivor_memory.specs.Nearest.{IsClosed, IsNearest};
 ghost use Rattle.kept_weights.specs.Decisions.{pairs_of};
+ghost use Rattle.kept_weights.specs.Potentials.{IsPotential, potential_of};
+ghost use Rattle.kept_weights.specs.Weights.{kept_weight, least_weight};
 ghost use Rattle.viterbi_lanes.specs.declared.Mark.{Mark};
-ghost use Rattle.viterbi_lanes.specs.Decisions.{changes, marks_at, marks_of};
+ghost use Rattle.viterbi_lanes.specs.Decisions.{AreNearlyKeptCode, changes, marks_at, marks_of};
 ghost use Rattle.viterbi_lanes.specs.Marks.{IsNearestTo, costs_of, distance};
 
 /// The distance of a list of bits to as many pairs of marks is its cost, and the nearest list is the nearest by cost (own).
@@ -24,14 +27,51 @@ pub fn one_nearest()
         → (u ≡ v) × (d ≡ e) }
 {}
 
-/// The pairs of marks of decisions are made step by step, and a list's distance to them is the number of decisions that
-/// differ from its kept code (own).
+/// To at least six pairs of marks there is a nearest list (own).
+pub fn some_nearest()
+    ensures { (marks : List (Mark × Mark)) → 6 ≤ length marks
+        → (u : List ℕ) × ((least : ℕ) × IsNearestTo marks u least) }
+{
+    survivor_memory::laws::some_nearest();
+}
+
+/// The pairs of marks of decisions are made step by step, decisions behind the kept places play no part, and a list's
+/// distance to the marks is the number of decisions that differ from its kept code (own).
 pub fn marks_of_decisions()
     ensures none { (rate : CodeRate) (decisions : List ℕ) → marks_of rate decisions 0 ≡ [] }
     ensures one_more { (rate : CodeRate) (decisions : List ℕ) (steps : ℕ)
         → marks_of rate decisions (steps + 1) ≡ marks_of rate decisions steps ++ marks_at rate decisions steps ∷ [] }
+    ensures first_decisions { (rate : CodeRate) (decisions : List ℕ) (steps : ℕ)
+        → marks_of rate (take (kept_count rate steps) decisions) steps ≡ marks_of rate decisions steps }
     ensures costs { (rate : CodeRate) (decisions : List ℕ) (steps : ℕ) → AreBits decisions
         → map costs_of (marks_of rate decisions steps) ≡ pairs_of rate 1 decisions steps }
     ensures distance { (rate : CodeRate) (u decisions : List ℕ) (steps : ℕ) → AreBits decisions → length u ≡ steps
         → distance (marks_of rate decisions steps) u ≡ changes rate steps u decisions }
 {}
+
+/// The kept code of a list that ends in six zeros, with as few changes as are repaired, has that list as the nearest, and
+/// the number of changes as its distance (own).
+pub fn few_changes_are_repaired()
+    ensures { (rate : CodeRate) (steps : ℕ) (u decisions : List ℕ) → 6 ≤ steps
+        → AreNearlyKeptCode rate steps u decisions
+        → IsNearestTo (marks_of rate decisions steps) u (changes rate steps u decisions) }
+{
+    survivor_memory::laws::some_nearest();
+}
+
+/// Each code rate has a potential: a number for each phase and state, of which over a branch one falls by at most the
+/// branch's kept weight (own).
+pub fn potentials()
+    ensures { (rate : CodeRate) → IsPotential rate (potential_of rate) }
+{
+    kept_weights::laws::potentials();
+}
+
+/// A list that ends in six zeros and has a 1 has at least 10 kept ones in its code at the rate 1/2, 6 at 2/3 and 5 at 3/4
+/// (own).
+pub fn least_kept_weight()
+    ensures { (rate : CodeRate) (steps : ℕ) (u : List ℕ) → IsClosed steps u
+        → (place : ℕ) → slice_index u place ≡ 1 → least_weight rate ≤ kept_weight rate u }
+{
+    kept_weights::laws::least_kept_weight();
+}

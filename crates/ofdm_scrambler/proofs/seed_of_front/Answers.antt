@@ -1,6 +1,4 @@
-use Rattle.std.proofs.Common.{◌≡◌, ℕ, ◌+◌, ◌*◌, ◌<◌, ◌∙◌, ap, sym, refl, arith, get_or, replicate}
-use Rattle.std.proofs.lemmas.List.Elements.{All-get_or}
-use Rattle.bit_lists.specs.Bits.{IsBit}
+use Rattle.std.proofs.Common.{◌≡◌, ℕ, ◌+◌, ◌*◌, ◌∙◌, ap, sym, arith}
 use Rattle.ofdm_scrambler.specs.Sequence.{from_minus_seven, scrambler_sequence}
 use Rattle.ofdm_scrambler.proofs.Fronts.{number_is, number_of_front, number_of_sequence, begins_with}
 use Rattle.ofdm_scrambler.proofs.seed_of_front.Goals as goal
@@ -24,6 +22,6 @@ returns-clause-no_other c = λ number small same. sym (number_of_sequence number
 pub returns-clause-zero : goal.returns-clause-zero
 unfolding from_minus_seven
 returns-clause-zero c = (
-    λ is_zero. sym (returns-clause-begins c) ∙ ap (λ number. scrambler_sequence number 7) is_zero,
-    λ zeros. made_is c ∙ ap number_of_front zeros,
-  )
+  λ is_zero. sym (returns-clause-begins c) ∙ ap (λ number. scrambler_sequence number 7) is_zero,
+  λ zeros. made_is c ∙ ap number_of_front zeros,
+)
