@@ -1,0 +1,165 @@
+//! Capture files: samples as bytes, four a sample, without header or trailer (own).
+#![tactic(auto)]
+
+ghost use Rattle.std.specs.Prelude.{◌≡◌, ◌%◌, ◌*◌, ◌≤◌, ◌^◌, ◌++◌, ℕ, length, take, drop, IfOk, OnOk, OnErr, IsErrOf, alloc_error};
+ghost use Rattle.modem_ports.specs.Counts.{Rose};
+ghost use Rattle.modem_ports.specs.Told.{Gives, GivesAtMost, GivesExactly, IsAtEnd, Takes, TakesPrefix};
+ghost use Rattle.capture_files.specs.Captures.{AreSamples, IsSample, IsTorn, bytes_of_sample, bytes_of_samples};
+ghost use Rattle.capture_files.specs.declared.CaptureFault.TheVariants.{NoMemory};
+
+use byteorder::{ByteOrder, LittleEndian};
+use fixed_complex::Sample;
+use modem_ports::{Failed, ReadAllFault, Sink, Source, read_all, write_all};
+use std::alloc::{AllocError, Global};
+use thiserror::Error;
+
+pub mod laws;
+#[cfg(test)]
+mod tests;
+
+/// Why a capture was not read (own).
+#[derive(Debug, Drop, Error)]
+pub enum CaptureFault {
+    /// The input ended after `bytes` bytes, which 4 does not divide.
+    #[error("the capture ends after {bytes} bytes")]
+    Torn { bytes: u32 },
+    /// More than 67108864 bytes came.
+    #[error("the capture is longer than 67108864 bytes")]
+    Long,
+    /// The source failed.
+    #[error("the source failed")]
+    Failed,
+    /// Want of memory.
+    #[error("no memory")]
+    NoMemory(AllocError),
+}
+
+impl From<AllocError> for CaptureFault {
+    ghost from_gives = { λ e fault. fault ≡ NoMemory e };
+
+    fn from(e: AllocError) -> CaptureFault {
+        CaptureFault::NoMemory(e)
+    }
+}
+
+/// The bytes of a sample.
+const SAMPLE: usize = 4;
+
+/// The most bytes of a capture: 2^24 samples.
+const MOST_BYTES: usize = 67108864;
+
+/// The bytes that are handed to a sink at once.
+const PIECE: usize = 4096;
+
+/// Reads a capture to the end of its input: at most 2^24 samples, each I and then Q, signed numbers of 16 bits, the low
+/// byte first (own).
+///
+/// `Ok` has the samples whose bytes are exactly the told bytes that were left, and none are left afterwards. `Torn`
+/// comes exactly where the input ended after so many bytes, and 4 does not divide them; none are left either. `Long`
+/// comes exactly where byte 67108865 was taken, and no more bytes are ever taken. `Failed` comes only where the
+/// source's count of faults rose in this call. `NoMemory` is free.
+pub fn read_capture<S: Source>(alloc: Global, source: &mut S) -> Result<Vec<Sample>, CaptureFault>
+    ensures whole { IfOk result
+        (λ samples. Gives (S.left source.old) (bytes_of_samples samples.items) (S.left source.new)) }
+    ensures end { IfOk result (λ _. IsAtEnd (S.left source.new)) }
+    ensures samples { IfOk result (λ samples. AreSamples samples.items) }
+    ensures within { IfOk result (λ samples. length samples.items ≤ 2 ^ 24) }
+    ensures torn { (bytes : ℕ) → IsErrOf result (CaptureFault.Torn bytes) → IsTorn bytes }
+    ensures torn_after { (bytes : ℕ) → IsErrOf result (CaptureFault.Torn bytes)
+        → GivesExactly bytes (S.left source.old) (S.left source.new) }
+    ensures torn_end { (bytes : ℕ) → IsErrOf result (CaptureFault.Torn bytes) → IsAtEnd (S.left source.new) }
+    ensures torn_within { (bytes : ℕ) → IsErrOf result (CaptureFault.Torn bytes) → bytes ≤ 67108864 }
+    ensures long { IsErrOf result CaptureFault.Long
+        → GivesExactly 67108865 (S.left source.old) (S.left source.new) }
+    ensures failed { IsErrOf result CaptureFault.Failed
+        → Rose (S.faults source.old) (S.faults source.new) }
+    ensures failed_within { IsErrOf result CaptureFault.Failed
+        → GivesAtMost 67108864 (S.left source.old) (S.left source.new) }
+    ensures no_memory_within { IsErrOf result (CaptureFault.NoMemory alloc_error)
+        → GivesAtMost 67108864 (S.left source.old) (S.left source.new) }
+    ensures taken { GivesAtMost 67108865 (S.left source.old) (S.left source.new) }
+    ensures counted { S.faults source.old ≤ S.faults source.new }
+{
+    let bytes = match read_all(alloc, source, MOST_BYTES) {
+        Ok(bytes) => bytes,
+        Err(ReadAllFault::Long) => return Err(CaptureFault::Long),
+        Err(ReadAllFault::Failed) => return Err(CaptureFault::Failed),
+        Err(ReadAllFault::NoMemory(e)) => return Err(CaptureFault::NoMemory(e)),
+    };
+    if bytes.len() % SAMPLE != 0 {
+        return Err(CaptureFault::Torn {
+            bytes: bytes.len() as u32,
+        });
+    }
+    Ok(samples_of(alloc, &bytes)?)
+}
+
+// The samples of whole samples' bytes.
+fn samples_of(alloc: Global, bytes: &[u8]) -> Result<Vec<Sample>, AllocError>
+    requires { length bytes.now % 4 ≡ 0 }
+    ensures bytes { IfOk result (λ samples. bytes_of_samples samples.items ≡ bytes.now) }
+    ensures samples { IfOk result (λ samples. AreSamples samples.items) }
+    ensures count { IfOk result (λ samples. 4 * length samples.items ≡ length bytes.now) }
+{
+    let count = bytes.len() / SAMPLE;
+    let mut samples = Vec::with_capacity(alloc, count)?;
+    for k in 0..count {
+        samples.push(sample_of(&bytes[SAMPLE * k..SAMPLE * k + SAMPLE]))?;
+    }
+    Ok(samples)
+}
+
+// The sample of four bytes.
+fn sample_of(bytes: &[u8]) -> Sample
+    requires { length bytes.now ≡ 4 }
+    ensures bytes { bytes_of_sample result ≡ bytes.now }
+    ensures sample { IsSample result }
+{
+    Sample {
+        i: LittleEndian::read_i16(bytes),
+        q: LittleEndian::read_i16(&bytes[2..]),
+    }
+}
+
+/// Writes samples to a sink: four bytes a sample, I and then Q, signed numbers of 16 bits, the low byte first (own).
+/// The sink is handed pieces of 4096 bytes, only the last one shorter, and again what it leaves of a piece. Takes no
+/// memory.
+///
+/// After `Ok` the told bytes are those before followed by all the samples' bytes. `Failed` comes only where the sink's
+/// count of faults rose in this call, and then the told bytes are those before followed by a prefix.
+pub fn write_samples<K: Sink>(samples: &[Sample], sink: &mut K) -> Result<(), Failed>
+    ensures ok { OnOk result (Takes (K.taken sink.old) (bytes_of_samples samples.now) (K.taken sink.new)) }
+    ensures failed { OnErr result (Rose (K.faults sink.old) (K.faults sink.new)) }
+    ensures prefix { OnErr result
+        (TakesPrefix (K.taken sink.old) (bytes_of_samples samples.now) (K.taken sink.new)) }
+    ensures counted { K.faults sink.old ≤ K.faults sink.new }
+{
+    let mut piece = [0; PIECE];
+    for some in samples.chunks(PIECE / SAMPLE) {
+        let count = put_samples(some, &mut piece);
+        write_all(sink, &piece[..count])?;
+    }
+    Ok(())
+}
+
+// Puts the bytes of samples into the front of a piece, and answers how many they are.
+fn put_samples(samples: &[Sample], piece: &mut [u8; PIECE]) -> usize
+    requires { length samples.now ≤ 1024 }
+    ensures bytes { take result piece.new ≡ bytes_of_samples samples.now }
+    ensures count { result ≡ 4 * length samples.now }
+{
+    let count = samples.len();
+    for k in 0..count {
+        put_sample(samples[k], &mut piece[SAMPLE * k..]);
+    }
+    SAMPLE * count
+}
+
+// Puts the four bytes of a sample into the front of a buffer.
+fn put_sample(sample: Sample, bytes: &mut [u8])
+    requires { 4 ≤ length bytes.old }
+    ensures { bytes.new ≡ bytes_of_sample sample ++ drop 4 bytes.old }
+{
+    LittleEndian::write_i16(bytes, sample.i);
+    LittleEndian::write_i16(&mut bytes[2..], sample.q);
+}
