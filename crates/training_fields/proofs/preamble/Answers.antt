@@ -12,7 +12,6 @@ use Rattle.training_fields.proofs.Fields.{long_fits, long_within, short_fits, sh
 use Rattle.training_fields.proofs.Places.{entry-map, near-append, within-append}
 use Rattle.training_fields.proofs.preamble.Goals as goal
 
-
 -- both bodies at their times
 both_exact : (short long : List Sample) → IsBody (by_bin short_carrier) short → IsBody (by_bin long_carrier) long → short_times (sample_at short) ++ long_times (sample_at long) ≡ preamble_of sent_body
 both_exact short long of_short of_long =

@@ -55,7 +55,7 @@ four_at p a b c d e f g h = ap (λ n. four p n b c d) e ∙ ap (λ n. four p 43 
 
 four_are : (p : ℤ) → (p ≡ pos 1) ⊎ (p ≡ negsuc 0) → four p 43 57 7 21 ≡ all_bins (pilot_with p)
 unfolding four sign_at
-four_are p cases = elim cases [ | inl e ↦ rw e refl | inr e ↦ rw e refl ]
+four_are p cases = elim cases [ inl e ↦ rw e refl | inr e ↦ rw e refl ]
 
 pub returns : goal.returns
 unfolding four
