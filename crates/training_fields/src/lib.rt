@@ -15,18 +15,23 @@ ghost use Rattle.training_fields.specs.Bounds.{AreSamplesWithin, FitASample, IsS
 ghost use Rattle.training_fields.specs.Nearness.{AreNearPlain};
 ghost use Rattle.training_fields.specs.Training.{long_carrier, long_sign_of, long_times, preamble_of, short_carrier, short_sign_of, short_times, template_of};
 
+pub mod laws;
+
 use butterfly64::up;
 use fixed_complex::{Cx, Sample, add, mul, turn};
 
 // The signs of the carriers from -26 to 26: + for 1, - for -1, and 0.
 static SHORT_SIGNS: [u8; 53] = *b"00+000-000+000-000-000+0000000-000-000+000+000+000+00";
+
 static LONG_SIGNS: [u8; 53] = *b"++--++-+-++++++--++-+-++++0+--++-+-+-----++--+-+-++++";
 
 // Both components of a carrier of the short training field, and what one of the long training field carries.
 const SHORT_AMPLITUDE: i64 = 954;
+
 const LONG_AMPLITUDE: i64 = 648;
 
 const ZERO: Cx = Cx { re: 0, im: 0 };
+
 const SILENCE: Sample = Sample { i: 0, q: 0 };
 
 /// L, the sign of a carrier in the long training field: 1 or -1, and 0 where L has no entry, for every number

@@ -1,4 +1,4 @@
-use Rattle.std.proofs.Common.{◌≡◌, ℕ, ◌+◌, ◌%◌, ◌<◌, ◌++◌, List, ap, sym, ◌∙◌, arith}
+use Rattle.std.proofs.Common.{◌≡◌, ◌+◌, ◌%◌, ◌++◌, List, ap, ◌∙◌, arith}
 use Rattle.fixed_complex.specs.declared.Sample.{Sample}
 use Rattle.butterfly64.specs.StagedSums.{entry}
 use Rattle.lane_kernels.specs.Lanes.{sample_at}
@@ -11,7 +11,6 @@ use Rattle.training_fields.proofs.Bodies.{IsBody, exact-at, is_body, near-at, wi
 use Rattle.training_fields.proofs.Fields.{long_fits, long_within, short_fits, short_within}
 use Rattle.training_fields.proofs.Places.{entry-map, near-append, within-append}
 use Rattle.training_fields.proofs.preamble.Goals as goal
-
 
 -- both bodies at their times
 both_exact : (short long : List Sample) → IsBody (by_bin short_carrier) short → IsBody (by_bin long_carrier) long → short_times (sample_at short) ++ long_times (sample_at long) ≡ preamble_of sent_body
