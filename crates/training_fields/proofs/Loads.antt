@@ -1,5 +1,5 @@
 -- The sizes of plain sums, and of sent samples with them.
-use Rattle.std.proofs.Common.{◌≡◌, ℕ, zero, suc, ◌+◌, ◌*◌, ◌<◌, ◌≤◌, ◌^◌, List, [], ◌∷◌, length, map, sum, ap, refl, sym, ◌∙◌, arith, ℤ, pos, ◌-ℤ◌, ◌*ℤ◌, unsigned_abs}
+use Rattle.std.proofs.Common.{◌≡◌, ℕ, zero, suc, ◌+◌, ◌*◌, ◌<◌, ◌≤◌, List, map, sum, ap, ◌∙◌, arith, ℤ, pos, ◌-ℤ◌, ◌*ℤ◌, unsigned_abs}
 use Rattle.std.specs.List.{range_with_len}
 use Rattle.std.proofs.lemmas.Int.{ints}
 use Rattle.std.proofs.lemmas.List.FromFn.{sum_by-map-range_with_len_more}
@@ -7,12 +7,10 @@ use Rattle.integer_laws.proofs.Order.{pos-le}
 use Rattle.integer_laws.proofs.FloorDivision.{rounded_within}
 use Rattle.fixed_complex.specs.declared.Cx.{Cx}
 use Rattle.fixed_complex.specs.Laws.{sum_below}
-use Rattle.fixed_complex.specs.Pairs.{IsOfSize, IsWithin, minus, multiple, times, zero_pair}
+use Rattle.fixed_complex.specs.Pairs.{IsOfSize, IsWithin, times}
 use Rattle.fixed_complex.specs.Turns.{turn_at}
-use Rattle.butterfly64.specs.PlainSums.{plain_up}
-use Rattle.butterfly64.specs.Samples.{by_256, rounded_pair}
-use Rattle.butterfly64.specs.StagedSums.{entry, up_at}
-use Rattle.butterfly64.proofs.Sizes.{wider, size-plus, size-times, size-within, within-size}
+use Rattle.butterfly64.specs.StagedSums.{entry}
+use Rattle.butterfly64.proofs.Sizes.{wider, size-plus, size-times, within-size}
 use Rattle.butterfly64.proofs.TurnSizes.{turn-size}
 use Rattle.training_fields.specs.Bodies.{plain_body, sample_of, sent_body}
 use Rattle.training_fields.specs.Bounds.{FitASample, IsSampleWithin}

@@ -1,5 +1,5 @@
 -- What holds of lists place by place, and of functions on the first 64 places.
-use Rattle.std.proofs.Common.{◌≡◌, ℕ, zero, suc, ◌+◌, ◌-◌, ◌*◌, ◌%◌, ◌<◌, ◌≤◌, ◌^◌, List, length, map, ◌++◌, ap, refl, sym, ◌∙◌, arith, inl, inr, length-append, pos}
+use Rattle.std.proofs.Common.{◌≡◌, ℕ, zero, suc, ◌-◌, ◌*◌, ◌<◌, List, length, map, ◌++◌, ap, refl, sym, ◌∙◌, arith, inl, inr, length-append, pos}
 use Rattle.std.specs.List.{range_with_len}
 use Rattle.std.proofs.Math.ListN.{get_or-append}
 use Rattle.std.proofs.lemmas.Bool.{cases_lt}
@@ -14,7 +14,7 @@ use Rattle.butterfly64.specs.Bounds.{AreWithin}
 use Rattle.butterfly64.specs.StagedSums.{entry}
 use Rattle.butterfly64.proofs.Halves.{up_at-local}
 use Rattle.lane_kernels.specs.Lanes.{sample_at}
-use Rattle.training_fields.specs.Bodies.{all_times, plain_body, sample_of, sent_body}
+use Rattle.training_fields.specs.Bodies.{plain_body, sample_of, sent_body}
 use Rattle.training_fields.specs.Bounds.{AreSamplesWithin, IsSampleWithin}
 use Rattle.training_fields.specs.Nearness.{AreNearPlain, IsNearPlain}
 

@@ -15,6 +15,8 @@ ghost use Rattle.training_fields.specs.Bounds.{AreSamplesWithin, FitASample, IsS
 ghost use Rattle.training_fields.specs.Nearness.{AreNearPlain};
 ghost use Rattle.training_fields.specs.Training.{long_carrier, long_sign_of, long_times, preamble_of, short_carrier, short_sign_of, short_times, template_of};
 
+pub mod laws;
+
 use butterfly64::up;
 use fixed_complex::{Cx, Sample, add, mul, turn};
 

@@ -1,9 +1,9 @@
-use Rattle.std.proofs.Common.{◌≡◌, ◌∙◌, ◌<◌, ◌^◌, length, ap, refl, arith, w64, to_z, of_z, pos, ◌*ℤ◌}
+use Rattle.std.proofs.Common.{◌<◌, arith}
 use Rattle.fixed_complex.specs.Pairs.{zero_pair}
 use Rattle.butterfly64.specs.Samples.{by_256}
 use Rattle.butterfly64.specs.StagedSums.{entry}
 use Rattle.butterfly64.proofs.PlainSumLaws.{pair_of}
-use Rattle.training_fields.proofs.Filled.{none_filled, one_more, all_filled}
+use Rattle.training_fields.proofs.Filled.{none_filled, one_more}
 use Rattle.training_fields.proofs.Parts.{times_256, by_256_within}
 use Rattle.training_fields.proofs.Places.{everywhere_within}
 use Rattle.training_fields.proofs.by_256.Goals as goal

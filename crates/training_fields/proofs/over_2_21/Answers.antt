@@ -1,4 +1,4 @@
-use Rattle.std.proofs.Common.{◌≡◌, ◌≤◌, arith, pos}
+use Rattle.std.proofs.Common.{arith}
 use Rattle.training_fields.proofs.Parts.{rounded_to_16}
 use Rattle.training_fields.proofs.over_2_21.Goals as goal
 

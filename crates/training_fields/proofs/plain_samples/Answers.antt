@@ -1,4 +1,4 @@
-use Rattle.std.proofs.Common.{◌≡◌, ◌∙◌, ap, arith}
+use Rattle.std.proofs.Common.{◌∙◌, ap, arith}
 use Rattle.butterfly64.specs.StagedSums.{entry}
 use Rattle.training_fields.specs.Bodies.{plain_sample, sample_of}
 use Rattle.training_fields.proofs.Filled.{one_more, all_filled}

@@ -1,8 +1,7 @@
-use Rattle.std.proofs.Common.{◌≡◌, ℕ, ◌+◌, ◌*◌, ◌∙◌, ◌<◌, ◌≤◌, ◌^◌, suc, List, length, ap, refl, sym, arith, pos}
-use Rattle.std.proofs.lemmas.Int.{ints}
+use Rattle.std.proofs.Common.{◌≡◌, ℕ, ◌+◌, ◌*◌, ◌∙◌, ◌^◌, suc, List, ap, refl, sym, arith}
 use Rattle.fixed_complex.specs.declared.Cx.{Cx}
 use Rattle.fixed_complex.specs.Laws.{sum_below}
-use Rattle.fixed_complex.specs.Pairs.{IsOfSize, IsWithin, plus, times}
+use Rattle.fixed_complex.specs.Pairs.{IsOfSize, plus, times}
 use Rattle.fixed_complex.specs.Turns.{turn_at}
 use Rattle.butterfly64.specs.Bounds.{AreWithin}
 use Rattle.butterfly64.specs.StagedSums.{entry}

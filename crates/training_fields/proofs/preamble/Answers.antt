@@ -1,4 +1,4 @@
-use Rattle.std.proofs.Common.{◌≡◌, ℕ, ◌+◌, ◌%◌, ◌<◌, ◌++◌, List, ap, sym, ◌∙◌, arith}
+use Rattle.std.proofs.Common.{◌≡◌, ◌+◌, ◌%◌, ◌++◌, List, ap, ◌∙◌, arith}
 use Rattle.fixed_complex.specs.declared.Sample.{Sample}
 use Rattle.butterfly64.specs.StagedSums.{entry}
 use Rattle.lane_kernels.specs.Lanes.{sample_at}

@@ -1,4 +1,4 @@
-use Rattle.std.proofs.Common.{◌≡◌, ℕ, ◌∙◌, ◌<◌, ◌^◌, List, length, ap, refl, sym, arith, pos}
+use Rattle.std.proofs.Common.{◌≡◌, ℕ, ◌∙◌, ◌<◌, ◌^◌, List, ap, arith, pos}
 use Rattle.fixed_complex.specs.declared.Cx.{Cx}
 use Rattle.fixed_complex.specs.Pairs.{IsWithin, minus, multiple}
 use Rattle.butterfly64.specs.Bounds.{AreWithin}
@@ -9,7 +9,7 @@ use Rattle.butterfly64.proofs.Halves.{up_at-local}
 use Rattle.training_fields.specs.Bodies.{sent_body, plain_body, sample_of}
 use Rattle.training_fields.specs.Bounds.{FitASample, IsSampleWithin}
 use Rattle.training_fields.specs.Nearness.{IsNearPlain}
-use Rattle.training_fields.proofs.Filled.{none_filled, one_more, all_filled}
+use Rattle.training_fields.proofs.Filled.{one_more, all_filled}
 use Rattle.training_fields.proofs.Loads.{sent_within}
 use Rattle.training_fields.proofs.Places.{entry-map, everywhere_within, near-map, within-map}
 use Rattle.training_fields.proofs.sent_samples.Goals as goal

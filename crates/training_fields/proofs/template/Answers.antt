@@ -9,7 +9,7 @@ use Rattle.lane_kernels.specs.Lanes.{sample_at}
 use Rattle.training_fields.specs.Bins.{by_bin}
 use Rattle.training_fields.specs.Bodies.{all_times, plain_body, plain_sample, sample_of}
 use Rattle.training_fields.specs.Bounds.{AreSamplesWithin}
-use Rattle.training_fields.specs.Training.{long_carrier, long_times, preamble_of, short_carrier, short_times, template_of}
+use Rattle.training_fields.specs.Training.{long_carrier, long_times, short_carrier, short_times, template_of}
 use Rattle.training_fields.proofs.Fields.{long_fits, long_within, short_fits, short_within}
 use Rattle.training_fields.proofs.Places.{entry-map, plain_body-local, sample-map, within-append, within-map}
 use Rattle.training_fields.proofs.template.Goals as goal
