@@ -236,8 +236,9 @@ fn keeps_the_status_where_the_report_fails(rt: HostRuntime) -> Result<(), Fail> 
 fn run_where_memory_may_want(
     alloc: Global,
     line: &str,
+    input: &[u8],
 ) -> Result<(Status, Vec<u8>, Vec<u8>), AllocError> {
-    let mut source = MemSource::open(alloc, &[0], 64, &[])?;
+    let mut source = MemSource::open(alloc, input, 64, &[])?;
     let mut out = MemSink::open(alloc, ROOM, 1000, &[])?;
     let mut report = MemSink::open(alloc, 80, 80, &[])?;
     let mut steps = Steps::new();
@@ -260,8 +261,15 @@ fn run_where_memory_may_want(
 // `tools/refuse-memory` runs this with each allocation refused in turn, and reads what it prints.
 #[test]
 fn answers_or_wants_memory(rt: HostRuntime) -> Result<(), Fail> {
-    for (line, count) in [("bits 9 93", 49), ("show interleaved 48 93", 289)] {
-        match run_where_memory_may_want(rt.alloc(), line) {
+    let kept_at_9 = b"001010110000100010100001001011001000001111101100";
+    let rows: [(&str, &[u8], usize); 4] = [
+        ("bits 9 93", &[0], 49),
+        ("show interleaved 48 93", &[0], 289),
+        ("show points 9 93", &[0], 317),
+        ("decode 9 1", kept_at_9, 1),
+    ];
+    for (line, input, count) in rows {
+        match run_where_memory_may_want(rt.alloc(), line, input) {
             Err(AllocError) => println!(rt; "{line}: refused before the run")?,
             Ok((status, bytes, reported)) => {
                 let wants = status == Status::NoMemory;
