@@ -1,6 +1,6 @@
 //! What holds of points, decisions, carriers and bins. The functions do nothing: what each ensures is the law.
 
-ghost use Rattle.std.specs.Prelude.{◌≡◌, ◌≢◌, ℕ, ◌<◌, ◌≤◌, List, IsTrue, length, ℤ, pos, neg_ℤ, ◌≤ℤ◌};
+ghost use Rattle.std.specs.Prelude.{◌≡◌, ◌≢◌, ℕ, ◌<◌, ◌≤◌, List, IsTrue, length, ℤ, pos, neg_ℤ, ◌≤ℤ◌, unsigned_abs};
 ghost use Rattle.bit_lists.specs.Bits.{AreBits};
 ghost use Rattle.fixed_complex.specs.declared.Cx.{Cx};
 ghost use Rattle.rate_table.specs.declared.Modulation.{Modulation};
@@ -19,6 +19,12 @@ pub fn decisions_near_a_point()
         → IsNear modulation (point_of modulation bits) z m → decided modulation z (pos m) ≡ used_bits modulation bits }
     ensures exact { (modulation : Modulation) (bits : List ℕ) (z : Cx) (m : ℕ) → AreBits bits → length bits ≡ 6
         → 0 < m → IsExactly (point_of modulation bits) z m → decided modulation z (pos m) ≡ used_bits modulation bits }
+{}
+
+/// The axis of any bits of an axis is at most 700 in size (own).
+pub fn sizes_of_axes()
+    ensures { (modulation : Modulation) (bits : List ℕ) → AreBits bits → length bits ≡ axis_width modulation
+        → unsigned_abs (axis_of modulation bits) ≤ 700 }
 {}
 
 /// Each data number has a carrier of its own, from -26 to 26, that is neither 0 nor a pilot

@@ -3,3 +3,4 @@ mod Polarities
 pub mod Bins
 pub mod Pilots
 pub mod SymbolSizes
+pub mod PointSizes

@@ -1,9 +1,8 @@
 -- The pilots: their signs, and their sizes.
-use Rattle.std.proofs.Common.{◌≡◌, ◌⊎◌, ℕ, ◌*◌, ◌<◌, ◌≤◌, Bool, true, false, leb, ap, refl, arith, inl, inr, ℤ, pos, negsuc, ◌*ℤ◌, unsigned_abs, if◌then◌else◌}
+use Rattle.std.proofs.Common.{◌≡◌, ◌⊎◌, ℕ, ◌*◌, ◌<◌, ◌≤◌, Bool, true, false, leb, refl, arith, inl, inr, ℤ, pos, negsuc, ◌*ℤ◌, unsigned_abs, if◌then◌else◌}
 use Rattle.std.proofs.lemmas.Bool.{leb-true}
 use Rattle.integer_laws.proofs.Order.{unsigned_abs-product}
 use Rattle.integer_laws.proofs.Sizes.{size_of_parts}
-use Rattle.fixed_complex.specs.declared.Cx.{Cx}
 use Rattle.fixed_complex.specs.Pairs.{IsOfSize, IsWithin}
 use Rattle.butterfly64.proofs.ByPlace.{passes_at}
 use Rattle.training_fields.specs.Bins.{carrier_in}

@@ -43,10 +43,10 @@ symbol_bins points n = map (symbol_bin points n) (range_with_len 0 64)
 abbrev pub symbol_times : {A : Type 0} → (ℕ → A) → List A
 symbol_times body = map (λ time. body ((time + 48) % 64)) (range_with_len 0 80)
 
--- the 80 sent samples of symbol n
+-- the 80 sent samples of symbol n, which are made of staged sums (own)
 abbrev pub sent_symbol : List Cx → ℕ → List Sample
 sent_symbol points n = symbol_times (sent_body (symbol_bin points n))
 
--- the 80 pairs of its plain waveform
+-- the 80 pairs of its plain waveform; its scale is own
 abbrev pub plain_symbol : List Cx → ℕ → List Cx
 plain_symbol points n = symbol_times (plain_body (symbol_bin points n))

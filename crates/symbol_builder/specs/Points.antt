@@ -26,9 +26,13 @@ point_at modulation bits d = point_of modulation (take (bits_per_point modulatio
 unfoldable pub points_of : Modulation → List ℕ → List Cx
 points_of modulation bits = map (point_at modulation bits) (range_with_len 0 48)
 
+-- the points of a symbol's coded bits at a rate: those of the bits interleaved
+abbrev pub points_of_code : Rate → List ℕ → List Cx
+points_of_code rate bits = points_of (row_of rate).modulation (interleaved rate bits)
+
 -- the points of DATA symbol m of a frame
 abbrev pub data_points : Rate → ℕ → List ℕ → ℕ → List Cx
-data_points rate seed psdu m = points_of (row_of rate).modulation (interleaved rate (symbol_bits rate (kept_at rate seed psdu) m))
+data_points rate seed psdu m = points_of_code rate (symbol_bits rate (kept_at rate seed psdu) m)
 
 -- the points of all DATA symbols, one symbol after another
 abbrev pub points_at : Rate → ℕ → List ℕ → List Cx

@@ -1,12 +1,18 @@
-//! What holds of the bins, the pilots and the points of a symbol. The functions do nothing: what each ensures is the
-//! law.
+//! What holds of the bins, the pilots, the points and the samples of a symbol. The functions do nothing: what each
+//! ensures is the law.
 
-ghost use Rattle.std.specs.Prelude.{◌≡◌, ◌≢◌, ℕ, ◌<◌, ◌==◌, ◌||◌, List, IsTrue, slice_index_or, ℤ, pos, neg_ℤ, ◌≤ℤ◌, unsigned_abs, if◌then◌else◌};
+ghost use Rattle.std.specs.Prelude.{◌≡◌, ◌≢◌, ℕ, ◌*◌, ◌<◌, ◌≤◌, ◌==◌, ◌||◌, List, length, IsTrue, slice_index_or, ℤ, pos, neg_ℤ, ◌≤ℤ◌, unsigned_abs, if◌then◌else◌};
+ghost use Rattle.bit_lists.specs.Bits.{AreBits};
+ghost use Rattle.butterfly64.specs.Bounds.{AreWithin};
 ghost use Rattle.fixed_complex.specs.declared.Cx.{Cx};
 ghost use Rattle.fixed_complex.specs.Pairs.{zero_pair};
 ghost use Rattle.constellations.specs.Carriers.{bin_of, carries_data, data_carrier_of};
+ghost use Rattle.rate_table.specs.declared.Modulation.{Modulation};
 ghost use Rattle.training_fields.specs.Bins.{carrier_in};
-ghost use Rattle.symbol_builder.specs.Carriers.{pilot_at, pilot_sign_of, symbol_bin};
+ghost use Rattle.training_fields.specs.Bounds.{AreSamplesWithin};
+ghost use Rattle.training_fields.specs.Nearness.{AreNearPlain};
+ghost use Rattle.symbol_builder.specs.Carriers.{pilot_at, pilot_sign_of, plain_symbol, sent_symbol, symbol_bin};
+ghost use Rattle.symbol_builder.specs.Points.{bits_per_point, points_of};
 
 /// The bin of the carrier in a bin is that bin, and the carrier in the bin of a carrier is that carrier, for the bins
 /// below 64 and the carriers from -32 to 31 (own).
@@ -33,3 +39,22 @@ pub fn bins_of_a_symbol()
         → ((k : ℕ) → k < 48 → bin_of (data_carrier_of k) ≢ bin)
         → symbol_bin points n bin ≡ pilot_at n (carrier_in bin) }
 {}
+
+/// No component of the points of a symbol's bits is larger than 700 in size (own).
+pub fn sizes_of_points()
+    ensures { (modulation : Modulation) (bits : List ℕ) → AreBits bits
+        → 48 * bits_per_point modulation ≤ length bits → AreWithin 700 (points_of modulation bits) }
+{
+    constellations::laws::sizes_of_axes();
+}
+
+/// The sent samples of symbol n, of any points with components of at most 700, are within 1 of the plain ones, and no
+/// component is larger than 25057 in size (own).
+pub fn sent_symbols()
+    ensures near { (points : List Cx) (n : ℕ) → AreWithin 700 points
+        → AreNearPlain 1 (sent_symbol points n) (plain_symbol points n) }
+    ensures within { (points : List Cx) (n : ℕ) → AreWithin 700 points
+        → AreSamplesWithin 25057 (sent_symbol points n) }
+{
+    training_fields::laws::sent_bodies();
+}

@@ -5,3 +5,4 @@ pub mod Places
 pub mod Loads
 pub mod Bodies
 pub mod Fields
+pub mod Sent

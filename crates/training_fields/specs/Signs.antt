@@ -1,4 +1,5 @@
--- Signs of carriers, written as the standard lists them, from carrier -26 to carrier 26 (IEEE Std 802.11-2012, 18.3.3).
+-- Signs of carriers, written as the standard lists them, from carrier -26 to carrier 26 (IEEE Std 802.11-2012, 18.3.3,
+-- 18.3.5.9 and 18.3.5.10).
 use Rattle.std.specs.Prelude.{ℕ, ◌==◌, List, slice_index, ℤ, pos, negsuc, ◌+ℤ◌, if◌then◌else◌}
 
 -- a sign's character: the code of + is 43, for 1, that of - is 45, for -1; any other stands for 0

@@ -36,7 +36,7 @@ short_times body = map (λ time. body (time % 64)) (range_with_len 0 160)
 abbrev pub long_times : {A : Type 0} → (ℕ → A) → List A
 long_times body = map (λ time. body ((time + 32) % 64)) (range_with_len 0 160)
 
--- both training fields, where a body is made so of what its carriers carry
+-- both training fields; `body` makes 64 samples, or 64 plain pairs, of what the bins carry
 abbrev pub preamble_of : {A : Type 0} → ((ℕ → Cx) → ℕ → A) → List A
 preamble_of body = short_times (body (by_bin short_carrier)) ++ long_times (body (by_bin long_carrier))
 

@@ -1,10 +1,47 @@
-//! What holds of the signs of the training fields. The function does nothing: what it ensures is the law.
+//! What holds of the signs of the training fields, and of the samples that are sent. The functions do nothing: what
+//! each ensures is the law.
 
-ghost use Rattle.std.specs.Prelude.{◌≡◌, ◌&&◌, nat_lt, ℤ, unsigned_abs, if◌then◌else◌};
-ghost use Rattle.training_fields.specs.Training.{long_sign_of};
+ghost use Rattle.std.specs.Prelude.{◌≡◌, ◌&&◌, ◌++◌, ℕ, List, nat_lt, ℤ, unsigned_abs, if◌then◌else◌};
+ghost use Rattle.butterfly64.specs.Bounds.{AreWithin};
+ghost use Rattle.butterfly64.specs.StagedSums.{entry};
+ghost use Rattle.fixed_complex.specs.declared.Cx.{Cx};
+ghost use Rattle.fixed_complex.specs.declared.Sample.{Sample};
+ghost use Rattle.training_fields.specs.Bodies.{all_times, plain_body, sent_body};
+ghost use Rattle.training_fields.specs.Bounds.{AreSamplesWithin, FitASample};
+ghost use Rattle.training_fields.specs.Nearness.{AreNearPlain};
+ghost use Rattle.training_fields.specs.Training.{long_sign_of, preamble_of};
 
 /// L is 1 or -1 on the carriers from -26 to 26 but 0, and 0 on all others (IEEE Std 802.11-2012, 18.3.3).
 pub fn carriers_of_long_training()
     ensures { (carrier : ℤ) → unsigned_abs (long_sign_of carrier)
         ≡ (if nat_lt 0 (unsigned_abs carrier) && nat_lt (unsigned_abs carrier) 27 then 1 else 0) }
 {}
+
+/// Samples behind samples are near plain ones behind plain ones where both lists are, and within a bound where both are
+/// (own).
+pub fn samples_behind_samples()
+    ensures near { (bound : ℕ) (front back : List Sample) (plain behind : List Cx) → AreNearPlain bound front plain
+        → AreNearPlain bound back behind → AreNearPlain bound (front ++ back) (plain ++ behind) }
+    ensures within { (bound : ℕ) (front back : List Sample) → AreSamplesWithin bound front
+        → AreSamplesWithin bound back → AreSamplesWithin bound (front ++ back) }
+{}
+
+/// The body that is sent of any 64 carriers with components of at most 954 that fit a sample is within 1 of the plain
+/// body, and no component is larger than 25057 in size (own).
+pub fn sent_bodies()
+    ensures near { (carriers : List Cx) → AreWithin 954 carriers
+        → AreNearPlain 1 (all_times (sent_body (entry carriers))) (all_times (plain_body (entry carriers))) }
+    ensures within { (carriers : List Cx) → AreWithin 954 carriers → FitASample carriers
+        → AreSamplesWithin 25057 (all_times (sent_body (entry carriers))) }
+{
+    butterfly64::laws::sent_samples();
+}
+
+/// The sent samples of both training fields are within 1 of the plain ones, and no component is larger than 25057 in
+/// size (own).
+pub fn sent_preamble()
+    ensures near { AreNearPlain 1 (preamble_of sent_body) (preamble_of plain_body) }
+    ensures within { AreSamplesWithin 25057 (preamble_of sent_body) }
+{
+    butterfly64::laws::sent_samples();
+}

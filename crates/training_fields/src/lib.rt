@@ -74,7 +74,8 @@ fn sign_of(character: u8) -> i64
     }
 }
 
-/// What the carriers of the short training field carry, by bin (IEEE Std 802.11-2012, 18.3.3; the amplitude is own).
+/// What the carriers of the short training field carry, by bin: 954 times S on both components, in units of a carrier
+/// (IEEE Std 802.11-2012, 18.3.3; the amplitude is own).
 pub fn short_carriers() -> [Cx; 64]
     ensures { result ≡ all_bins short_carrier }
 {
@@ -86,7 +87,8 @@ pub fn short_carriers() -> [Cx; 64]
     carriers
 }
 
-/// What the carriers of the long training field carry, by bin (IEEE Std 802.11-2012, 18.3.3; the amplitude is own).
+/// What the carriers of the long training field carry, by bin: 648 times L on I, in units of a carrier
+/// (IEEE Std 802.11-2012, 18.3.3; the amplitude is own).
 pub fn long_carriers() -> [Cx; 64]
     ensures { result ≡ all_bins long_carrier }
 {
@@ -138,9 +140,9 @@ fn in_time(short: &[Sample; 64], long: &[Sample; 64]) -> [Sample; 320]
     samples
 }
 
-/// The body that is sent: the 64 samples of what the carriers carry, given by bin, each component at most 954 in size
-/// and all of them together small enough for a sample (own). Each sample is within 1 of the plain one, which is half
-/// the sum of the carriers, and no component is larger than 25057 in size.
+/// The body that is sent: the 64 samples of what the carriers carry, given by bin, each component at most 954 in size,
+/// and with bounds on the sizes of the 64 pairs that sum to at most 50112 (own). Each sample is within 1 of the plain
+/// one, which is half the sum of the carriers, and no component is larger than 25057 in size.
 pub fn sent_samples(carriers: &[Cx; 64]) -> [Sample; 64]
     requires within { AreWithin 954 carriers.now }
     requires fits { FitASample carriers.now }

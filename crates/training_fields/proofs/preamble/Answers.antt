@@ -1,34 +1,12 @@
-use Rattle.std.proofs.Common.{◌≡◌, ◌+◌, ◌%◌, ◌++◌, List, ap, ◌∙◌, arith}
-use Rattle.fixed_complex.specs.declared.Sample.{Sample}
+use Rattle.std.proofs.Common.{ap, ◌∙◌}
 use Rattle.butterfly64.specs.StagedSums.{entry}
-use Rattle.lane_kernels.specs.Lanes.{sample_at}
 use Rattle.training_fields.specs.Bins.{by_bin}
-use Rattle.training_fields.specs.Bodies.{plain_body, sent_body}
-use Rattle.training_fields.specs.Bounds.{AreSamplesWithin}
-use Rattle.training_fields.specs.Nearness.{AreNearPlain}
-use Rattle.training_fields.specs.Training.{long_carrier, long_times, preamble_of, short_carrier, short_times}
-use Rattle.training_fields.proofs.Bodies.{IsBody, exact-at, is_body, near-at, within-at}
+use Rattle.training_fields.specs.Training.{long_carrier, short_carrier}
+use Rattle.training_fields.proofs.Bodies.{IsBody, is_body}
 use Rattle.training_fields.proofs.Fields.{long_fits, long_within, short_fits, short_within}
-use Rattle.training_fields.proofs.Places.{entry-map, near-append, within-append}
+use Rattle.training_fields.proofs.Places.{entry-map}
+use Rattle.training_fields.proofs.Sent.{both_exact, both_near, both_within}
 use Rattle.training_fields.proofs.preamble.Goals as goal
-
--- both bodies at their times
-both_exact : (short long : List Sample) → IsBody (by_bin short_carrier) short → IsBody (by_bin long_carrier) long → short_times (sample_at short) ++ long_times (sample_at long) ≡ preamble_of sent_body
-both_exact short long of_short of_long =
-    ap (λ xs. xs ++ long_times (sample_at long)) (exact-at (by_bin short_carrier) short (λ time. time % 64) 160 of_short (λ time. omega arith))
-    ∙ ap (λ ys. short_times (sent_body (by_bin short_carrier)) ++ ys) (exact-at (by_bin long_carrier) long (λ time. (time + 32) % 64) 160 of_long (λ time. omega arith))
-
-both_near : (short long : List Sample) → IsBody (by_bin short_carrier) short → IsBody (by_bin long_carrier) long → AreNearPlain 1 (short_times (sample_at short) ++ long_times (sample_at long)) (preamble_of plain_body)
-both_near short long of_short of_long =
-    near-append 1 _ _ _ _
-    (near-at (by_bin short_carrier) short (λ time. time % 64) 160 of_short (λ time. omega arith))
-    (near-at (by_bin long_carrier) long (λ time. (time + 32) % 64) 160 of_long (λ time. omega arith))
-
-both_within : (short long : List Sample) → IsBody (by_bin short_carrier) short → IsBody (by_bin long_carrier) long → AreSamplesWithin 25057 (short_times (sample_at short) ++ long_times (sample_at long))
-both_within short long of_short of_long =
-    within-append 25057 _ _
-    (within-at (by_bin short_carrier) short (λ time. time % 64) 160 of_short (λ time. omega arith))
-    (within-at (by_bin long_carrier) long (λ time. (time + 32) % 64) 160 of_long (λ time. omega arith))
 
 pub sent_samples-requires-clause-within : goal.sent_samples-requires-clause-within
 sent_samples-requires-clause-within c = rw c.short_carriers.ensures short_within

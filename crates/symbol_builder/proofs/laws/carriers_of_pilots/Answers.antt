@@ -1,9 +1,8 @@
-use Rattle.std.proofs.Common.{◌≡◌, ℕ, ◌+◌, ◌<◌, ◌≤◌, Bool, true, false, not, ◌||◌, ◌==◌, eqb, IsTrue, ap, refl, sym, ◌∙◌, arith, inl, inr, ℤ, pos, negsuc, ◌<ℤ◌, unsigned_abs, if◌then◌else◌}
+use Rattle.std.proofs.Common.{◌≡◌, ℕ, ◌+◌, ◌<◌, Bool, true, false, not, ◌||◌, ◌==◌, eqb, IsTrue, ap, refl, sym, ◌∙◌, arith, inl, inr, ℤ, pos, negsuc, unsigned_abs, if◌then◌else◌}
 use Rattle.std.proofs.lemmas.Bool.{cases_lt, eqb-true}
 use Rattle.std.proofs.lemmas.Bool.Decides.{nat_tests}
 use Rattle.std.proofs.lemmas.Int.{ints}
 use Rattle.butterfly64.proofs.ByPlace.{passes_at}
-use Rattle.constellations.specs.Carriers.{carries_data}
 use Rattle.training_fields.specs.Signs.{sign_at}
 use Rattle.training_fields.proofs.Signs.{sign_above, sign_below}
 use Rattle.symbol_builder.specs.Carriers.{pilot_sign_of, pilot_signs}

@@ -1,19 +1,16 @@
-use Rattle.std.proofs.Common.{◌≡◌, ◌≢◌, ℕ, ◌+◌, ◌<◌, ◌≤◌, List, length, map, set, ap, sym, ◌∙◌, arith, inl, inr, w32, to_z, of_z, ℤ, pos, neg_ℤ, ◌≤ℤ◌, get_or-set_same, get_or-set_other, length-set}
-use Rattle.std.specs.List.{range_with_len}
-use Rattle.std.proofs.lemmas.Bool.{cases_eq, cases_lt}
+use Rattle.std.proofs.Common.{◌≡◌, ℕ, ◌+◌, ◌<◌, List, length, set, ap, sym, ◌∙◌, arith, inl, inr, w32, to_z, of_z, ℤ, get_or-set_same, get_or-set_other, length-set}
+use Rattle.std.proofs.lemmas.Bool.{cases_eq}
 use Rattle.std.proofs.lemmas.Int.{ints}
-use Rattle.std.proofs.lemmas.List.{ext_get_or}
 use Rattle.std.proofs.lemmas.List.FromFn.{length-map-range_with_len}
 use Rattle.fixed_complex.specs.declared.Cx.{Cx}
-use Rattle.fixed_complex.specs.Pairs.{IsWithin, zero_pair}
-use Rattle.butterfly64.specs.Bounds.{AreWithin}
+use Rattle.fixed_complex.specs.Pairs.{zero_pair}
 use Rattle.butterfly64.specs.StagedSums.{entry}
 use Rattle.butterfly64.proofs.SumSizes.{is_by_place}
 use Rattle.constellations.specs.Carriers.{bin_of, data_carrier_of}
 use Rattle.constellations.proofs.Tables.{carrier-good}
-use Rattle.training_fields.specs.Bins.{all_bins, by_bin, carrier_in}
-use Rattle.training_fields.proofs.Places.{entry-map, everywhere_within}
-use Rattle.symbol_builder.specs.Carriers.{data_number_in, pilot_at, symbol_bin, symbol_bins}
+use Rattle.training_fields.specs.Bins.{by_bin}
+use Rattle.training_fields.proofs.Places.{entry-map}
+use Rattle.symbol_builder.specs.Carriers.{pilot_at, symbol_bin}
 use Rattle.symbol_builder.proofs.Bins.{all_placed, none_placed, one_placed, others_stay, placed}
 use Rattle.symbol_builder.proofs.SymbolSizes.{symbol_within}
 use Rattle.symbol_builder.proofs.samples.carriers.Goals as goal

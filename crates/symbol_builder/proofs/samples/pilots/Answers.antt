@@ -1,12 +1,11 @@
-use Rattle.std.proofs.Common.{◌≡◌, ◌⊎◌, ℕ, List, map, set, replicate, ap, sym, refl, ◌∙◌, arith, inl, inr, w64, to_z, of_z, ℤ, pos, negsuc, ◌-ℤ◌, ◌*ℤ◌, ◌≤◌, unsigned_abs, FitsSigned}
-use Rattle.std.specs.List.{range_with_len}
+use Rattle.std.proofs.Common.{◌≡◌, ◌⊎◌, ℕ, List, set, replicate, ap, refl, ◌∙◌, arith, inl, inr, w64, to_z, of_z, ℤ, pos, negsuc, ◌-ℤ◌, ◌*ℤ◌, ◌≤◌, unsigned_abs}
 use Rattle.std.proofs.lemmas.Int.{ints}
 use Rattle.fixed_complex.specs.declared.Cx.{Cx}
 use Rattle.fixed_complex.specs.Pairs.{zero_pair}
 use Rattle.constellations.specs.Carriers.{bin_of}
 use Rattle.training_fields.specs.Bins.{all_bins}
 use Rattle.training_fields.specs.Signs.{sign_at}
-use Rattle.symbol_builder.specs.Carriers.{pilot_at, pilot_sign_of, polarity_of}
+use Rattle.symbol_builder.specs.Carriers.{pilot_sign_of}
 use Rattle.symbol_builder.proofs.Pilots.{polarity_cases, polarity_size}
 use Rattle.symbol_builder.proofs.samples.pilots.Goals as goal
 

@@ -1,4 +1,4 @@
-use Rattle.std.proofs.Common.{ℕ, ◌+◌, ◌%◌, ◌<◌, ◌≤◌, ◌∙◌, ap, arith}
+use Rattle.std.proofs.Common.{◌+◌, ◌%◌, ◌∙◌, ap, arith}
 use Rattle.butterfly64.specs.StagedSums.{entry}
 use Rattle.butterfly64.proofs.Sizes.{within_wider}
 use Rattle.training_fields.proofs.Bodies.{IsBody, exact-at, is_body, near-at, within-at}
