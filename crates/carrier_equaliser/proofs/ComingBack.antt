@@ -1,0 +1,154 @@
+-- Carriers that were sent come back times 32.
+use Rattle.std.proofs.Common.{◌≡◌, ℕ, zero, suc, ◌+◌, ◌*◌, ◌^◌, ◌<◌, ◌≤◌, List, length, refl, ap, sym, ◌∙◌, arith, ℤ, pos, ◌+ℤ◌, ◌-ℤ◌, ◌*ℤ◌, neg_ℤ, unsigned_abs}
+use Rattle.std.proofs.Math.Nat.{mul-le-mul}
+use Rattle.std.proofs.lemmas.Int.{ints}
+use Rattle.std.proofs.lemmas.List.FromFn.{length-map-range_with_len}
+use Rattle.fixed_complex.specs.declared.Cx.{Cx}
+use Rattle.fixed_complex.specs.declared.Sample.{Sample}
+use Rattle.fixed_complex.specs.Laws.{sum_below}
+use Rattle.fixed_complex.specs.Pairs.{IsOfSize, IsWithin, conjugate, minus, multiple, plus, times}
+use Rattle.fixed_complex.specs.Turns.{turn_at}
+use Rattle.integer_laws.proofs.Order.{pos-le, unsigned_abs-difference, unsigned_abs-product, unsigned_abs-sum}
+use Rattle.integer_laws.proofs.Ring.{ring, number, ◌⊕◌, ◌⊖◌, ◌⊗◌, ◌≗◌}
+use Rattle.integer_laws.proofs.Sizes.{size_of_parts, size_of_unscaled}
+use Rattle.butterfly64.specs.PlainSums.{plain_down, plain_up}
+use Rattle.butterfly64.specs.StagedSums.{entry}
+use Rattle.butterfly64.proofs.PlainSumLaws.{minus_sums, multiple_sum, pair_of, same_sums}
+use Rattle.butterfly64.proofs.Sizes.{size-conjugate, size-plus, size-times, wider}
+use Rattle.butterfly64.proofs.TurnSizes.{turn-size}
+use Rattle.butterfly64.proofs.UpBudget.{size-multiple}
+use Rattle.training_fields.specs.Bodies.{all_times, plain_body}
+use Rattle.training_fields.specs.Nearness.{AreNearPlain}
+use Rattle.training_fields.proofs.Places.{entry-map}
+use Rattle.carrier_equaliser.specs.Nearness.{AreNearPlainSums}
+use Rattle.carrier_equaliser.specs.Received.{pair_at}
+
+-- ---- what a plain sum of samples has beside that of a plain body
+-- 2^21 times a pair, less the plain one
+abbrev deviation : (ℕ → Cx) → (ℕ → Cx) → ℕ → Cx
+deviation r w n = minus (multiple (pos 2097152) (r n)) (w n)
+
+deviation_term : (c : ℤ) (a b t : Cx) → times (minus (multiple c a) b) t ≡ minus (multiple c (times a t)) (times b t)
+unfolding times
+deviation_term c a b t = pair_of _ _ (re c a.re a.im b.re b.im t.re t.im) (im c a.re a.im b.re b.im t.re t.im)
+  where
+    re : (c x y u v p q : ℤ) → (c *ℤ x -ℤ u) *ℤ p -ℤ (c *ℤ y -ℤ v) *ℤ q ≡ c *ℤ (x *ℤ p -ℤ y *ℤ q) -ℤ (u *ℤ p -ℤ v *ℤ q)
+    re = ring 7 (λ c x y u v p q. (c ⊗ x ⊖ u) ⊗ p ⊖ (c ⊗ y ⊖ v) ⊗ q ≗ c ⊗ (x ⊗ p ⊖ y ⊗ q) ⊖ (u ⊗ p ⊖ v ⊗ q)) refl
+
+    im : (c x y u v p q : ℤ) → (c *ℤ x -ℤ u) *ℤ q +ℤ (c *ℤ y -ℤ v) *ℤ p ≡ c *ℤ (x *ℤ q +ℤ y *ℤ p) -ℤ (u *ℤ q +ℤ v *ℤ p)
+    im = ring 7 (λ c x y u v p q. (c ⊗ x ⊖ u) ⊗ q ⊕ (c ⊗ y ⊖ v) ⊗ p ≗ c ⊗ (x ⊗ q ⊕ y ⊗ p) ⊖ (u ⊗ q ⊕ v ⊗ p)) refl
+
+plain_down-deviation : (r w : ℕ → Cx) (c : ℕ) → minus (multiple (pos 2097152) (plain_down r c)) (plain_down w c) ≡ plain_down (deviation r w) c
+plain_down-deviation r w c =
+    let back = λ (n : ℕ). conjugate (turn_at (c * n)) in
+    ap (λ s. minus s (plain_down w c)) (multiple_sum (pos 2097152) 64 (λ n. times (r n) (back n)))
+    ∙ minus_sums 64 (λ n. multiple (pos 2097152) (times (r n) (back n))) (λ n. times (w n) (back n))
+    ∙ same_sums _ _ (λ n. sym (deviation_term (pos 2097152) (r n) (w n) (back n))) 64
+
+-- 2^41 times the deviation of a received carrier, by way of the plain sums
+by_way : (y f p x : Cx) → multiple (pos 2199023255552) (minus y (multiple (pos 32) x)) ≡ plus (multiple (pos 2097152) (minus (multiple (pos 1048576) y) f)) (plus (minus (multiple (pos 2097152) f) p) (minus p (multiple (pos 70368744177664) x)))
+by_way y f p x = pair_of _ _ (law y.re f.re p.re x.re) (law y.im f.im p.im x.im)
+  where
+    law : (y f p x : ℤ) → pos 2199023255552 *ℤ (y -ℤ pos 32 *ℤ x) ≡ pos 2097152 *ℤ (pos 1048576 *ℤ y -ℤ f) +ℤ ((pos 2097152 *ℤ f -ℤ p) +ℤ (p -ℤ pos 70368744177664 *ℤ x))
+    law = ring 4 (λ y f p x. number (pos 2199023255552) ⊗ (y ⊖ number (pos 32) ⊗ x) ≗ number (pos 2097152) ⊗ (number (pos 1048576) ⊗ y ⊖ f) ⊕ ((number (pos 2097152) ⊗ f ⊖ p) ⊕ (p ⊖ number (pos 70368744177664) ⊗ x))) refl
+
+-- ---- as sizes
+size-sum_below : (n b : ℕ) (f : ℕ → Cx) → ((m : ℕ) → m < n → IsOfSize b (f m)) → IsOfSize (n * b) (sum_below n f)
+unfolding sum_below
+size-sum_below zero b f h = record { size = pos-le 0 (zero * b * (zero * b)) (omega arith) }
+size-sum_below (suc n) b f h =
+    wider (n * b + b) (suc n * b) _ (omega arith) (size-plus (n * b) b (sum_below n f) (f n) (size-sum_below n b f (λ m lt. h m (omega arith))) (h n (omega arith)))
+
+-- the size of a pair by a bound on its components
+size_by_parts : (a b : ℕ) (z : Cx) → a * a + a * a ≤ b * b → IsWithin a z → IsOfSize b z
+size_by_parts a b z enough within = record { size = size_of_parts z.re z.im a a b within.re within.im enough }
+
+size-plain_down : (bound : ℕ) (e : ℕ → Cx) (c : ℕ) → ((n : ℕ) → n < 64 → IsWithin (2097152 * bound) (e n)) → IsOfSize (64 * (2965821 * bound * 1048577)) (plain_down e c)
+size-plain_down bound e c within =
+    size-sum_below 64 (2965821 * bound * 1048577) (λ n. times (e n) (conjugate (turn_at (c * n))))
+    (λ n lt. size-times (2965821 * bound) 1048577 (e n) (conjugate (turn_at (c * n))) (size_by_parts (2097152 * bound) (2965821 * bound) (e n) (omega arith) (within n lt)) (size-conjugate 1048577 (turn_at (c * n)) (turn-size (c * n))))
+
+size_back : (bound : ℕ) (y f p x : Cx) → IsWithin (40 * 2 ^ 20) (minus (multiple (pos 1048576) y) f) → IsOfSize (64 * (2965821 * bound * 1048577)) (minus (multiple (pos 2097152) f) p) → IsWithin (9 * 2 ^ 41) (minus p (multiple (pos 70368744177664) x)) → IsOfSize (91 * bound + 70) (minus y (multiple (pos 32) x))
+size_back bound y f p x near noise undone =
+    let d = minus y (multiple (pos 32) x) in
+    let rounding = size-multiple 2097152 (57 * 1048576) _ (size_by_parts (40 * 2 ^ 20) (57 * 1048576) _ (omega arith) near) in
+    let table = size_by_parts (9 * 2 ^ 41) (13 * 2199023255552) _ (omega arith) undone in
+    let rest = size-plus (64 * (2965821 * bound * 1048577)) (13 * 2199023255552) _ _ noise table in
+    let most = 2097152 * (57 * 1048576) + (64 * (2965821 * bound * 1048577) + 13 * 2199023255552) in
+    let all : IsOfSize most (multiple (pos 2199023255552) d) = rw (by_way y f p x) (size-plus (2097152 * (57 * 1048576)) (64 * (2965821 * bound * 1048577) + 13 * 2199023255552) _ _ rounding rest) in
+    record { size = size_of_unscaled 2199023255552 d.re d.im (91 * bound + 70) (omega arith) (wider most (2199023255552 * (91 * bound + 70)) (multiple (pos 2199023255552) d) (omega arith) all).size }
+
+-- ---- and by components
+within-sum_below : (n b : ℕ) (f : ℕ → Cx) → ((m : ℕ) → m < n → IsWithin b (f m)) → IsWithin (n * b) (sum_below n f)
+unfolding sum_below
+within-sum_below zero b f h = record { re = omega arith; im = omega arith }
+within-sum_below (suc n) b f h =
+    let before = within-sum_below n b f (λ m lt. h m (omega arith)) in
+    let last = h n (omega arith) in
+    record {
+      re = omega (arith, before.re, last.re, unsigned_abs-sum (sum_below n f).re (f n).re);
+      im = omega (arith, before.im, last.im, unsigned_abs-sum (sum_below n f).im (f n).im);
+    }
+
+-- a pair that is turned back
+within-turned : (a s : ℕ) (e t : Cx) → IsWithin a e → unsigned_abs t.re + unsigned_abs t.im ≤ s → IsWithin (a * s) (times e (conjugate t))
+unfolding times
+within-turned a s e t within small =
+    let back = neg_ℤ t.im in
+    let same : unsigned_abs back ≡ unsigned_abs t.im = omega (arith, ints) in
+    let all : a * (unsigned_abs t.re + unsigned_abs t.im) ≤ a * s = mul-le-mul (omega arith) small in
+    let re_re = unsigned_abs-product e.re t.re a (unsigned_abs t.re) within.re (omega arith) in
+    let im_im = unsigned_abs-product e.im back a (unsigned_abs t.im) within.im (omega (arith, same)) in
+    let re_im = unsigned_abs-product e.re back a (unsigned_abs t.im) within.re (omega (arith, same)) in
+    let im_re = unsigned_abs-product e.im t.re a (unsigned_abs t.re) within.im (omega arith) in
+    record {
+      re = omega (arith, all, re_re, im_im, unsigned_abs-difference (e.re *ℤ t.re) (e.im *ℤ back));
+      im = omega (arith, all, re_im, im_re, unsigned_abs-sum (e.re *ℤ back) (e.im *ℤ t.re));
+    }
+
+within-plain_down : (turns : (m : ℕ) → unsigned_abs (turn_at m).re + unsigned_abs (turn_at m).im ≤ 1482910) (bound : ℕ) (e : ℕ → Cx) (c : ℕ) → ((n : ℕ) → n < 64 → IsWithin (2097152 * bound) (e n)) → IsWithin (64 * (2097152 * bound * 1482910)) (plain_down e c)
+within-plain_down turns bound e c within =
+    within-sum_below 64 (2097152 * bound * 1482910) (λ n. times (e n) (conjugate (turn_at (c * n))))
+    (λ n lt. within-turned (2097152 * bound) 1482910 (e n) (turn_at (c * n)) (within n lt) (turns (c * n)))
+
+part_back : (bound : ℕ) (y f p x : ℤ) → unsigned_abs (pos 1048576 *ℤ y -ℤ f) ≤ 40 * 2 ^ 20 → unsigned_abs (pos 2097152 *ℤ f -ℤ p) ≤ 64 * (2097152 * bound * 1482910) → unsigned_abs (p -ℤ pos 70368744177664 *ℤ x) ≤ 9 * 2 ^ 41 → unsigned_abs (y -ℤ pos 32 *ℤ x) ≤ 91 * bound + 49
+part_back bound y f p x near noise undone = omega (arith, ints)
+
+-- ---- the law
+module _ (turns : (m : ℕ) → unsigned_abs (turn_at m).re + unsigned_abs (turn_at m).im ≤ 1482910)
+    (undone : (x : ℕ → Cx) → ((c : ℕ) → IsWithin 954 (x c)) → (c : ℕ) → c < 64 → IsWithin (9 * 2 ^ 41) (minus (plain_down (plain_up x) c) (multiple (pos 70368744177664) (x c)))) where
+  module _ (bound : ℕ) (sent : ℕ → Cx) (body : List Sample) (carriers : List Cx) (sent_within : (bin : ℕ) → IsWithin 954 (sent bin))
+      (near : AreNearPlain bound body (all_times (plain_body sent))) (sums : AreNearPlainSums 40 carriers body) (bin : ℕ) (lt : bin < 64) where
+    near_body : (n : ℕ) → n < 64 → IsWithin (2097152 * bound) (deviation (pair_at body) (plain_up sent) n)
+    near_body n below =
+        let here : n < length body = omega (arith, near.long, length-map-range_with_len (plain_body sent) 0 64) in
+        let part = rw (entry-map (plain_body sent) 64 n below) at (near.each n here) in
+        record { re = part.i; im = part.q }
+
+    abbrev y : Cx
+    y = entry carriers bin
+
+    abbrev f : Cx
+    f = plain_down (pair_at body) bin
+
+    abbrev p : Cx
+    p = plain_down (plain_up sent) bin
+
+    near_sum : IsWithin (40 * 2 ^ 20) (minus (multiple (pos 1048576) y) f)
+    near_sum = let part = sums.each bin lt in record { re = part.re; im = part.im }
+
+    pub comes_back : IsOfSize (91 * bound + 70) (minus y (multiple (pos 32) (sent bin)))
+    comes_back =
+        let noise : IsOfSize (64 * (2965821 * bound * 1048577)) (minus (multiple (pos 2097152) f) p) =
+        rw (plain_down-deviation (pair_at body) (plain_up sent) bin) (size-plain_down bound (deviation (pair_at body) (plain_up sent)) bin near_body) in
+        size_back bound y f p (sent bin) near_sum noise (undone sent sent_within bin lt)
+
+    pub parts_come_back : IsWithin (91 * bound + 49) (minus y (multiple (pos 32) (sent bin)))
+    parts_come_back =
+        let noise : IsWithin (64 * (2097152 * bound * 1482910)) (minus (multiple (pos 2097152) f) p) =
+        rw (plain_down-deviation (pair_at body) (plain_up sent) bin) (within-plain_down turns bound (deviation (pair_at body) (plain_up sent)) bin near_body) in
+        let table = undone sent sent_within bin lt in
+        record {
+          re = part_back bound y.re f.re p.re (sent bin).re near_sum.re noise.re table.re;
+          im = part_back bound y.im f.im p.im (sent bin).im near_sum.im noise.im table.im;
+        }

@@ -1,0 +1,32 @@
+//! What received carriers are where samples are near those of carriers that were sent. The function does nothing: what
+//! it ensures is the law.
+
+ghost use Rattle.std.specs.Prelude.{ℕ, ◌+◌, ◌*◌, ◌<◌, List, pos};
+ghost use Rattle.fixed_complex.specs.Pairs.{IsOfSize, IsWithin, minus, multiple};
+ghost use Rattle.fixed_complex.specs.declared.Cx.{Cx};
+ghost use Rattle.fixed_complex.specs.declared.Sample.{Sample};
+ghost use Rattle.butterfly64.specs.StagedSums.{entry};
+ghost use Rattle.training_fields.specs.Bodies.{all_times, plain_body};
+ghost use Rattle.training_fields.specs.Nearness.{AreNearPlain};
+ghost use Rattle.carrier_equaliser.specs.Nearness.{AreNearPlainSums};
+
+use butterfly64::laws::plain_sums_undone;
+use fixed_complex::laws::size_of_a_turn;
+
+/// Carriers that were sent come back times 32. Where the 64 samples of a body are within a bound B of the plain body of
+/// carriers with components of at most 954, and received carriers are within 40 of the plain sums of these samples, as
+/// those of `carriers_of` are, each is near 32 times the one that was sent: the difference is at most 91*B + 70 in
+/// size, and at most 91*B + 49 in each component (own).
+pub fn sent_carriers_come_back()
+    ensures size { (bound : ℕ) (sent : ℕ → Cx) (body : List Sample) (carriers : List Cx)
+        → ((bin : ℕ) → IsWithin 954 (sent bin)) → AreNearPlain bound body (all_times (plain_body sent))
+        → AreNearPlainSums 40 carriers body → (bin : ℕ) → bin < 64
+        → IsOfSize (91 * bound + 70) (minus (entry carriers bin) (multiple (pos 32) (sent bin))) }
+    ensures within { (bound : ℕ) (sent : ℕ → Cx) (body : List Sample) (carriers : List Cx)
+        → ((bin : ℕ) → IsWithin 954 (sent bin)) → AreNearPlain bound body (all_times (plain_body sent))
+        → AreNearPlainSums 40 carriers body → (bin : ℕ) → bin < 64
+        → IsWithin (91 * bound + 49) (minus (entry carriers bin) (multiple (pos 32) (sent bin))) }
+{
+    plain_sums_undone();
+    size_of_a_turn();
+}
