@@ -1,1 +1,4 @@
 mod Fields
+pub mod Begun
+pub mod FramePlaces
+mod NearFrames

@@ -1,10 +1,18 @@
-//! What holds of fields of decisions. Its functions do nothing: what each ensures is the law.
-ghost use Rattle.std.specs.Prelude.{◌≡◌, ◌≤◌, ℕ, List, length};
+//! What holds of fields of decisions and of frames. Its functions do nothing: what each ensures is the law.
+ghost use Rattle.std.specs.Prelude.{◌≡◌, ◌<◌, ◌≤◌, ℕ, ◌+◌, ◌*◌, ◌%◌, List, length};
 ghost use Rattle.bit_lists.specs.Bits.{AreBits, AreOctets};
+ghost use Rattle.butterfly64.specs.StagedSums.{entry};
+ghost use Rattle.lane_kernels.specs.Lanes.{sample_at};
 ghost use Rattle.ofdm_scrambler.specs.Sequence.{IsSeed};
 ghost use Rattle.rate_table.specs.Table.{row_of};
 ghost use Rattle.rate_table.specs.declared.Rate.{Rate};
+ghost use Rattle.rate_table.specs.Symbols.{symbol_count};
+ghost use Rattle.training_fields.specs.Bodies.{plain_body, sent_body};
+ghost use Rattle.training_fields.specs.Bounds.{AreSamplesWithin};
+ghost use Rattle.training_fields.specs.Nearness.{AreNearPlain};
+ghost use Rattle.training_fields.specs.Training.{preamble_of};
 ghost use Rattle.modem_links.specs.Fields.{IsFieldOf, flips};
+ghost use Rattle.modem_links.specs.Frames.{frame_bin, plain_frame, sent_frame};
 
 /// Decisions have a field, and only one (own).
 pub fn one_field()
@@ -28,4 +36,36 @@ pub fn few_flips()
 {
     viterbi_lanes::laws::few_changes_are_repaired();
     bit_lists::laws::octets_and_bits();
+}
+
+/// How long a frame is, and where its parts stand: the preamble from 0 on, and symbol n from 320 + 80 n on, so SIGNAL at
+/// 320 and DATA symbol m at 400 + 80 m (IEEE Std 802.11-2012, 18.3.2.1).
+pub fn places_of_a_frame()
+    ensures sent_length { (rate : Rate) (seed : ℕ) (psdu : List ℕ)
+        → length (sent_frame rate seed psdu) ≡ 400 + 80 * symbol_count (row_of rate).field_bits (length psdu) }
+    ensures plain_length { (rate : Rate) (seed : ℕ) (psdu : List ℕ)
+        → length (plain_frame rate seed psdu) ≡ 400 + 80 * symbol_count (row_of rate).field_bits (length psdu) }
+    ensures sent_preamble { (rate : Rate) (seed : ℕ) (psdu : List ℕ) (t : ℕ) → t < 320
+        → sample_at (sent_frame rate seed psdu) t ≡ sample_at (preamble_of sent_body) t }
+    ensures plain_preamble { (rate : Rate) (seed : ℕ) (psdu : List ℕ) (t : ℕ) → t < 320
+        → entry (plain_frame rate seed psdu) t ≡ entry (preamble_of plain_body) t }
+    ensures sent_symbols { (rate : Rate) (seed : ℕ) (psdu : List ℕ) (n t : ℕ)
+        → n ≤ symbol_count (row_of rate).field_bits (length psdu) → t < 80
+        → sample_at (sent_frame rate seed psdu) (320 + 80 * n + t) ≡ sent_body (frame_bin rate seed psdu n) ((t + 48) % 64) }
+    ensures plain_symbols { (rate : Rate) (seed : ℕ) (psdu : List ℕ) (n t : ℕ)
+        → n ≤ symbol_count (row_of rate).field_bits (length psdu) → t < 80
+        → entry (plain_frame rate seed psdu) (320 + 80 * n + t) ≡ plain_body (frame_bin rate seed psdu n) ((t + 48) % 64) }
+{}
+
+/// The sent samples of every frame are within 1 of its plain waveform, and no component is larger than 25057 in size
+/// (own).
+pub fn sent_frames()
+    ensures near { (rate : Rate) (seed : ℕ) (psdu : List ℕ)
+        → AreNearPlain 1 (sent_frame rate seed psdu) (plain_frame rate seed psdu) }
+    ensures within { (rate : Rate) (seed : ℕ) (psdu : List ℕ) → AreSamplesWithin 25057 (sent_frame rate seed psdu) }
+{
+    training_fields::laws::sent_preamble();
+    training_fields::laws::samples_behind_samples();
+    symbol_builder::laws::sent_symbols();
+    symbol_builder::laws::sizes_of_points();
 }

@@ -1,6 +1,7 @@
 //! Both ends of the link over whole fields and frames (IEEE Std 802.11-2012, 18.3).
 #![tactic(auto)]
 
+mod frames;
 pub mod laws;
 mod marks;
 #[cfg(test)]
@@ -18,6 +19,7 @@ ghost use Rattle.rate_table.specs.Table.{row_of};
 
 use bit_lists::{Octets, bytes_of};
 use conv_code::encode;
+pub use frames::{SendFault, frame_samples, interleaved_symbol, points_of_code, send};
 use modem_ports::Steps;
 use ofdm_scrambler::{Seed, descramble_in_place, seed_of_front};
 use puncture_map::puncture;

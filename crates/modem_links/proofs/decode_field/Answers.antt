@@ -1,11 +1,9 @@
-use Rattle.std.proofs.Common.{◌≡◌, ◌+◌, ◌*◌, ◌∙◌, length, drop, ap, sym, refl, arith}
+use Rattle.std.proofs.Common.{◌≡◌, ◌+◌, ◌*◌, ◌∙◌, length, drop, sym, arith}
 use Rattle.std.proofs.lemmas.List.{take_at}
-use Rattle.puncture_map.specs.Kept.{kept_count}
 use Rattle.rate_table.specs.Symbols.{bits_through_tail}
 use Rattle.rate_table.specs.Table.{row_of}
 use Rattle.viterbi_lanes.specs.Decisions.{marks_of}
 use Rattle.viterbi_lanes.specs.Marks.{StandsFor}
-use Rattle.modem_links.specs.Fields.{IsFieldOf, NamesFront, flips}
 use Rattle.modem_links.proofs.Fields.{enough_decisions, field_front, flips_are_changes, front_names, nearly_front, undone_psdu}
 use Rattle.modem_links.proofs.decode_field.Goals as goal
 

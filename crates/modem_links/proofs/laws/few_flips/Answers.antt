@@ -1,10 +1,9 @@
-use Rattle.std.proofs.Common.{◌≡◌, ◌≤◌, ◌*◌, ℕ, length, ◌∙◌, refl, sym, ap, subst, arith}
+use Rattle.std.proofs.Common.{length, ◌∙◌, refl, sym, ap, subst, arith}
 use Rattle.bit_lists.specs.Bits.{octets_of_bits}
 use Rattle.rate_table.specs.Table.{row_of}
 use Rattle.rate_table.specs.Symbols.{bits_through_tail}
-use Rattle.viterbi_lanes.specs.Decisions.{changes, marks_of}
+use Rattle.viterbi_lanes.specs.Decisions.{marks_of}
 use Rattle.viterbi_lanes.specs.Marks.{IsNearestTo}
-use Rattle.modem_links.specs.Fields.{IsFieldOf, flips}
 use Rattle.modem_links.proofs.Fields.{field_front, flips_are_changes, front_has_psdu, front_names, nearly_front}
 use Rattle.modem_links.proofs.laws.few_flips.Goals as goal
 

@@ -1,4 +1,4 @@
-use Rattle.std.proofs.Common.{◌≡◌, ◌≤◌, length, take, refl, arith, ◌∙◌, sym, ap}
+use Rattle.std.proofs.Common.{◌≡◌, length, take, refl, arith, ◌∙◌, sym, ap}
 use Rattle.std.proofs.lemmas.List.{length-take-le}
 use Rattle.std.proofs.lemmas.List.Elements.{All-take}
 use Rattle.std.proofs.lemmas.List.FromFn.{length-map-range_with_len}
@@ -6,7 +6,7 @@ use Rattle.bit_lists.specs.Bits.{IsBit}
 use Rattle.rate_table.specs.Table.{row_of}
 use Rattle.rate_table.specs.Symbols.{bits_through_tail}
 use Rattle.viterbi_lanes.specs.Decisions.{marks_at, marks_of}
-use Rattle.modem_links.specs.Fields.{IsFieldOf, NamesFront, psdu_in}
+use Rattle.modem_links.specs.Fields.{psdu_in}
 use Rattle.modem_links.proofs.laws.one_field.Goals as goal
 
 pub returns-clause-some : goal.returns-clause-some

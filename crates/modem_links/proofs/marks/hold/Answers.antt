@@ -3,7 +3,6 @@ use Rattle.std.proofs.lemmas.Bool.{cases_lt}
 use Rattle.std.proofs.lemmas.List.FromFn.{map-range_with_len_more}
 use Rattle.puncture_map.proofs.Counts.{kept_count-rises}
 use Rattle.viterbi_lanes.specs.Decisions.{marks_at, marks_of}
-use Rattle.viterbi_lanes.specs.Marks.{StandsFor}
 use Rattle.modem_links.proofs.marks.hold.Goals as goal
 
 pub pair-a-requires-clause-decisions : goal.pair-a-requires-clause-decisions
