@@ -8,15 +8,16 @@ use Rattle.rate_table.specs.declared.Rate.{Rate}
 use Rattle.rate_table.specs.declared.Rate.TheVariants.{R6, R9, R12, R18, R24, R36, R48, R54}
 use Rattle.rate_table.specs.Table.{rate_at}
 use Rattle.modem_cli.specs.declared.words.Stage.{Stage}
-use Rattle.modem_cli.specs.declared.words.Stage.TheVariants.{Scrambled, Coded, Kept, Interleaved, Points}
+use Rattle.modem_cli.specs.declared.words.Stage.TheVariants.{Scrambled, Coded, Kept, Interleaved, Points, Header, Samples}
 use Rattle.modem_cli.specs.declared.words.Command.{Command}
-use Rattle.modem_cli.specs.declared.words.Command.TheVariants.{Bits, Decode, Show}
+use Rattle.modem_cli.specs.declared.words.Command.TheVariants.{Bits, Decode, Send, Show}
 use Rattle.modem_cli.specs.declared.refusals.Refusal.TheVariants.{Words, LongCapture, BadBit, BitCount}
 use Rattle.bit_lists.proofs.Texts.{some_text}
 use Rattle.modem_links.specs.Fields.{IsFieldOf}
 use Rattle.modem_cli.specs.Grammar.{IsLength, Say, rate_and_seed, stage_word}
 use Rattle.rate_table.specs.Table.{row_of}
 use Rattle.ofdm_scrambler.specs.Sequence.{IsSeed}
+use Rattle.modem_links.specs.Frames.{sent_bytes}
 use Rattle.modem_cli.specs.Outcome.{Outcome, Writes, Refuses, CommandOutcome, DecodeOutcome, too_long, no_bit, wrong_count, of_field, bits_needed, most_input, HasOutcome, of_command, of_no_command, psdu_outcome, stage_text_of}
 
 -- a fact or its contrary
@@ -108,6 +109,16 @@ bits_at_seed words rate n =
       ]
     ]
 
+send_at_seed : (words : List (List ℕ)) (rate : Rate) (n : ℕ) → Decided (Say words (Send rate n))
+send_at_seed words rate n =
+    elim (seed_decided n) [
+      | inr out ↦ inr (λ says. out says.in_range)
+      | inl in_range ↦ elim (same_words words (codes "send" ∷ rate_and_seed rate n)) [
+        | inl same ↦ inl (record { in_range = in_range; words_are = same })
+        | inr other ↦ inr (λ says. other says.words_are)
+      ]
+    ]
+
 show_at_seed : (words : List (List ℕ)) (stage : Stage) (rate : Rate) (n : ℕ) → Decided (Say words (Show stage rate n))
 show_at_seed words stage rate n =
     elim (seed_decided n) [
@@ -120,6 +131,9 @@ show_at_seed words stage rate n =
 
 bits_at : (words : List (List ℕ)) (rate : Rate) → Decided ((n : ℕ) × Say words (Bits rate n))
 bits_at words rate = said_with_seed words (λ n. Bits rate n) (bits_at_seed words rate) (λ n says. omega (arith, says.in_range.1))
+
+send_at : (words : List (List ℕ)) (rate : Rate) → Decided ((n : ℕ) × Say words (Send rate n))
+send_at words rate = said_with_seed words (λ n. Send rate n) (send_at_seed words rate) (λ n says. omega (arith, says.in_range.1))
 
 show_at : (words : List (List ℕ)) (stage : Stage) (rate : Rate) → Decided ((n : ℕ) × Say words (Show stage rate n))
 show_at words stage rate = said_with_seed words (λ n. Show stage rate n) (show_at_seed words stage rate) (λ n says. omega (arith, says.in_range.1))
@@ -170,7 +184,9 @@ stage_at zero = Scrambled
 stage_at (suc zero) = Coded
 stage_at (suc (suc zero)) = Kept
 stage_at (suc (suc (suc zero))) = Interleaved
-stage_at (suc (suc (suc (suc n)))) = Points
+stage_at (suc (suc (suc (suc zero)))) = Points
+stage_at (suc (suc (suc (suc (suc zero))))) = Header
+stage_at (suc (suc (suc (suc (suc (suc n)))))) = Samples
 
 abbrev number_of : Stage → ℕ
 number_of Scrambled = 0
@@ -178,13 +194,17 @@ number_of Coded = 1
 number_of Kept = 2
 number_of Interleaved = 3
 number_of Points = 4
+number_of Header = 5
+number_of Samples = 6
 
-number_below : (stage : Stage) → number_of stage < 5
+number_below : (stage : Stage) → number_of stage < 7
 number_below Scrambled = lit< tt
 number_below Coded = lit< tt
 number_below Kept = lit< tt
 number_below Interleaved = lit< tt
 number_below Points = lit< tt
+number_below Header = lit< tt
+number_below Samples = lit< tt
 
 stage_at-number_of : (stage : Stage) → stage_at (number_of stage) ≡ stage
 stage_at-number_of Scrambled = refl
@@ -192,11 +212,13 @@ stage_at-number_of Coded = refl
 stage_at-number_of Kept = refl
 stage_at-number_of Interleaved = refl
 stage_at-number_of Points = refl
+stage_at-number_of Header = refl
+stage_at-number_of Samples = refl
 
 -- some stage has a property, or none has
 some_stage : (P : Stage → Type 0) → ((stage : Stage) → Decided (P stage)) → Decided ((stage : Stage) × P stage)
 some_stage P decide =
-    elim (some_below (λ k. P (stage_at k)) (λ k. decide (stage_at k)) 5) [
+    elim (some_below (λ k. P (stage_at k)) (λ k. decide (stage_at k)) 7) [
       | inl found ↦ inl (stage_at found.0, found.1)
       | inr none ↦ inr (λ found. none (number_of found.0) (number_below found.0) (subst P (sym (stage_at-number_of found.0)) found.1))
     ]
@@ -208,6 +230,9 @@ some_bits words = some_rate (λ rate. (n : ℕ) × Say words (Bits rate n)) (bit
 some_decode : (words : List (List ℕ)) → Decided ((rate : Rate) × ((n : ℕ) × Say words (Decode rate n)))
 some_decode words = some_rate (λ rate. (n : ℕ) × Say words (Decode rate n)) (decode_at words)
 
+some_send : (words : List (List ℕ)) → Decided ((rate : Rate) × ((n : ℕ) × Say words (Send rate n)))
+some_send words = some_rate (λ rate. (n : ℕ) × Say words (Send rate n)) (send_at words)
+
 some_show : (words : List (List ℕ)) → Decided ((stage : Stage) × ((rate : Rate) × ((n : ℕ) × Say words (Show stage rate n))))
 some_show words =
     some_stage (λ stage. (rate : Rate) × ((n : ℕ) × Say words (Show stage rate n)))
@@ -215,10 +240,12 @@ some_show words =
 
 nothing_said : (words : List (List ℕ)) → (((rate : Rate) × ((n : ℕ) × Say words (Bits rate n))) → ⊥)
     → (((rate : Rate) × ((n : ℕ) × Say words (Decode rate n))) → ⊥)
+    → (((rate : Rate) × ((n : ℕ) × Say words (Send rate n))) → ⊥)
     → (((stage : Stage) × ((rate : Rate) × ((n : ℕ) × Say words (Show stage rate n)))) → ⊥) → (command : Command) → Say words command → ⊥
-nothing_said words no_bits no_decode no_show (Bits rate seed) says = no_bits (rate, (seed, says))
-nothing_said words no_bits no_decode no_show (Decode rate length) says = no_decode (rate, (length, says))
-nothing_said words no_bits no_decode no_show (Show stage rate seed) says = no_show (stage, (rate, (seed, says)))
+nothing_said words no_bits no_decode no_send no_show (Bits rate seed) says = no_bits (rate, (seed, says))
+nothing_said words no_bits no_decode no_send no_show (Decode rate length) says = no_decode (rate, (length, says))
+nothing_said words no_bits no_decode no_send no_show (Send rate seed) says = no_send (rate, (seed, says))
+nothing_said words no_bits no_decode no_send no_show (Show stage rate seed) says = no_show (stage, (rate, (seed, says)))
 
 -- decisions have a field: what `one_field` ensures
 abbrev pub SomeField : Type 0
@@ -245,6 +272,7 @@ module _ (some : SomeField) where
   outcome_of : (command : Command) (words : List (List ℕ)) (bytes : List ℕ) → (outcome : Outcome) × CommandOutcome command words bytes outcome
   outcome_of (Bits rate seed) words bytes = (psdu_outcome (stage_text_of Kept rate seed) bytes, refl)
   outcome_of (Decode rate length) words bytes = some_decoded rate length bytes
+  outcome_of (Send rate seed) words bytes = (psdu_outcome (sent_bytes rate seed) bytes, refl)
   outcome_of (Show stage rate seed) words bytes = (psdu_outcome (stage_text_of stage rate seed) bytes, refl)
 
   outcome_where_said : (words : List (List ℕ)) (bytes : List ℕ) (command : Command) → Say words command → (outcome : Outcome) × HasOutcome words bytes outcome
@@ -258,9 +286,12 @@ module _ (some : SomeField) where
         | inl said ↦ outcome_where_said words bytes (Bits said.0 said.1.0) said.1.1
         | inr no_bits ↦ elim (some_decode words) [
           | inl said ↦ outcome_where_said words bytes (Decode said.0 said.1.0) said.1.1
-          | inr no_decode ↦ elim (some_show words) [
-            | inl said ↦ outcome_where_said words bytes (Show said.0 said.1.0 said.1.1.0) said.1.1.1
-            | inr no_show ↦ (Refuses Words, of_no_command (nothing_said words no_bits no_decode no_show) refl)
+          | inr no_decode ↦ elim (some_send words) [
+            | inl said ↦ outcome_where_said words bytes (Send said.0 said.1.0) said.1.1
+            | inr no_send ↦ elim (some_show words) [
+              | inl said ↦ outcome_where_said words bytes (Show said.0 said.1.0 said.1.1.0) said.1.1.1
+              | inr no_show ↦ (Refuses Words, of_no_command (nothing_said words no_bits no_decode no_send no_show) refl)
+            ]
           ]
         ]
       ]

@@ -8,3 +8,4 @@ pub mod Decided
 pub mod Symbols
 pub mod Flipped
 pub mod Decoding
+pub mod Unsaid

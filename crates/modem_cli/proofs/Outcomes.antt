@@ -5,7 +5,7 @@ use Rattle.modem_ports.specs.Told.{Takes, TakesPrefix}
 use Rattle.modem_cli.specs.declared.refusals.Refusal.{Refusal}
 use Rattle.modem_cli.specs.declared.refusals.Refusal.TheVariants.{Words, BadBit, BitCount}
 use Rattle.modem_cli.specs.declared.words.Command.{Command}
-use Rattle.modem_cli.specs.declared.words.Command.TheVariants.{Bits, Decode, Show}
+use Rattle.modem_cli.specs.declared.words.Command.TheVariants.{Bits, Decode, Send, Show}
 use Rattle.modem_cli.specs.Grammar.{Say, SayNothing}
 use Rattle.bit_lists.proofs.Texts.{apart, one_place, one_text}
 use Rattle.modem_links.specs.Fields.{IsFieldOf}
@@ -58,6 +58,7 @@ module _ (one : OneField) where
   one_of_command : (command : Command) (words : List (List ℕ)) (bytes : List ℕ) (a b : Outcome) → CommandOutcome command words bytes a → CommandOutcome command words bytes b → a ≡ b
   one_of_command (Bits rate seed) words bytes a b has has' = has ∙ sym has'
   one_of_command (Decode rate length) words bytes a b has has' = one_decoded rate length bytes a b has has'
+  one_of_command (Send rate seed) words bytes a b has has' = has ∙ sym has'
   one_of_command (Show stage rate seed) words bytes a b has has' = has ∙ sym has'
 
   -- where the words say a command, the outcome is that command's

@@ -6,7 +6,7 @@ use Rattle.modem_cli.specs.declared.refusals.Refusal.{Refusal}
 use Rattle.modem_cli.specs.declared.refusals.Refusal.TheVariants.{Words, EmptyPsdu, LongPsdu, LongCapture, BadBit, BitCount, ReadFault, WriteFault, NoMemory}
 use Rattle.modem_cli.specs.declared.refusals.Status.{Status}
 use Rattle.modem_cli.specs.declared.refusals.Status.TheVariants as status
-use Rattle.modem_cli.specs.declared.words.Command.TheVariants.{Bits, Decode, Show}
+use Rattle.modem_cli.specs.declared.words.Command.TheVariants.{Bits, Decode, Send, Show}
 use Rattle.modem_cli.specs.Grammar.{SayNothing}
 use Rattle.modem_cli.specs.Refusals.{status_of}
 use Rattle.modem_cli.specs.Outcome.{Outcome, Writes, Refuses, DecodeOutcome, too_long, no_bit, wrong_count, of_field, HasOutcome, of_command, of_no_command, IsOutcome, RefusesWords, AreRefused, MayFollow}
@@ -98,6 +98,7 @@ nothing_said words (refusal, cause) = unsaid refusal cause.0 (cause.1 [])
     unsaid : (refusal : Refusal) → status_of refusal ≡ status.BadWords → HasOutcome words [] (Refuses refusal) → SayNothing words
     unsaid refusal status_is (of_command (Bits rate seed) says is) = absurd (empty_is_no_word refusal status_is is)
     unsaid refusal status_is (of_command (Decode rate length) says is) = absurd (decoding_is_no_word refusal rate length [] status_is is)
+    unsaid refusal status_is (of_command (Send rate seed) says is) = absurd (empty_is_no_word refusal status_is is)
     unsaid refusal status_is (of_command (Show stage rate seed) says is) = absurd (empty_is_no_word refusal status_is is)
     unsaid refusal status_is (of_no_command none is) = none
 

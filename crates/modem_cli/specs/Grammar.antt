@@ -6,9 +6,9 @@ use Rattle.rate_table.specs.Table.{row_of}
 use Rattle.ofdm_scrambler.specs.Sequence.{IsSeed}
 use Rattle.data_field.specs.Field.{most_octets}
 use Rattle.modem_cli.specs.declared.words.Stage.{Stage}
-use Rattle.modem_cli.specs.declared.words.Stage.TheVariants.{Scrambled, Coded, Kept, Interleaved, Points}
+use Rattle.modem_cli.specs.declared.words.Stage.TheVariants.{Scrambled, Coded, Kept, Interleaved, Points, Header, Samples}
 use Rattle.modem_cli.specs.declared.words.Command.{Command}
-use Rattle.modem_cli.specs.declared.words.Command.TheVariants.{Bits, Decode, Show}
+use Rattle.modem_cli.specs.declared.words.Command.TheVariants.{Bits, Decode, Send, Show}
 
 -- the texts of the words of the command line
 abbrev pub texts_of : Vec (String Global) Global → List (List ℕ)
@@ -21,6 +21,8 @@ stage_word Coded = codes "coded"
 stage_word Kept = codes "kept"
 stage_word Interleaved = codes "interleaved"
 stage_word Points = codes "points"
+stage_word Header = codes "header"
+stage_word Samples = codes "samples"
 
 -- the words RATE SEED
 abbrev pub rate_and_seed : Rate → ℕ → List (List ℕ)
@@ -54,12 +56,14 @@ NamesNoStage word = (stage : Stage) → word ≢ stage_word stage
 abbrev pub AreWordsOf : Command → List (List ℕ) → Type 0
 AreWordsOf (Bits rate seed) words = words ≡ codes "bits" ∷ rate_and_seed rate seed
 AreWordsOf (Decode rate length) words = words ≡ codes "decode" ∷ decimal (row_of rate).mbps ∷ decimal length ∷ []
+AreWordsOf (Send rate seed) words = words ≡ codes "send" ∷ rate_and_seed rate seed
 AreWordsOf (Show stage rate seed) words = words ≡ codes "show" ∷ stage_word stage ∷ rate_and_seed rate seed
 
 -- the numbers of a command are within their ranges
 abbrev pub IsInRange : Command → Type 0
 IsInRange (Bits rate seed) = IsSeed seed
 IsInRange (Decode rate length) = IsLength length
+IsInRange (Send rate seed) = IsSeed seed
 IsInRange (Show stage rate seed) = IsSeed seed
 
 -- the words say the command

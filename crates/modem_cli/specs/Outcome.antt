@@ -6,18 +6,19 @@ use Rattle.rate_table.specs.declared.Rate.{Rate}
 use Rattle.rate_table.specs.Symbols.{symbol_count}
 use Rattle.rate_table.specs.Table.{row_of}
 use Rattle.modem_links.specs.Fields.{IsFieldOf}
+use Rattle.modem_links.specs.Frames.{sent_bytes, sent_frame, signal_code}
 use Rattle.data_field.specs.Field.{most_octets}
 use Rattle.data_field.specs.Stages.{field_at, code_at, kept_at, interleaved_at}
 use Rattle.symbol_builder.specs.Points.{points_at}
-use Rattle.modem_cli.specs.Pairs.{text_of_pairs}
+use Rattle.modem_cli.specs.Pairs.{text_of_pairs, text_of_samples}
 use Rattle.modem_cli.specs.declared.refusals.Refusal.{Refusal}
 use Rattle.modem_cli.specs.declared.refusals.Refusal.TheVariants.{Words, EmptyPsdu, LongPsdu, LongCapture, BadBit, BitCount}
 use Rattle.modem_cli.specs.declared.refusals.Status.{Status}
 use Rattle.modem_cli.specs.declared.refusals.Status.TheVariants as status
 use Rattle.modem_cli.specs.declared.words.Stage.{Stage}
-use Rattle.modem_cli.specs.declared.words.Stage.TheVariants.{Scrambled, Coded, Kept, Interleaved, Points}
+use Rattle.modem_cli.specs.declared.words.Stage.TheVariants.{Scrambled, Coded, Kept, Interleaved, Points, Header, Samples}
 use Rattle.modem_cli.specs.declared.words.Command.{Command}
-use Rattle.modem_cli.specs.declared.words.Command.TheVariants.{Bits, Decode, Show}
+use Rattle.modem_cli.specs.declared.words.Command.TheVariants.{Bits, Decode, Send, Show}
 use Rattle.modem_cli.specs.Grammar.{Say, SayNothing}
 use Rattle.modem_cli.specs.Refusals.{status_of}
 
@@ -32,6 +33,8 @@ stage_text_of Coded rate seed psdu = text_of_bits (code_at rate seed psdu)
 stage_text_of Kept rate seed psdu = text_of_bits (kept_at rate seed psdu)
 stage_text_of Interleaved rate seed psdu = text_of_bits (interleaved_at rate seed psdu)
 stage_text_of Points rate seed psdu = text_of_pairs (points_at rate seed psdu)
+stage_text_of Header rate seed psdu = text_of_bits (signal_code rate psdu)
+stage_text_of Samples rate seed psdu = text_of_samples (sent_frame rate seed psdu)
 
 -- the outcome of a command that reads a PSDU and writes this of it
 abbrev pub psdu_outcome : (List ℕ → List ℕ) → List ℕ → Outcome
@@ -62,6 +65,7 @@ pub data DecodeOutcome (rate : Rate) (octets : ℕ) (bytes : List ℕ) (outcome 
 abbrev pub CommandOutcome : Command → List (List ℕ) → List ℕ → Outcome → Type 0
 CommandOutcome (Bits rate seed) words bytes outcome = outcome ≡ psdu_outcome (stage_text_of Kept rate seed) bytes
 CommandOutcome (Decode rate length) words bytes outcome = DecodeOutcome rate length bytes outcome
+CommandOutcome (Send rate seed) words bytes outcome = outcome ≡ psdu_outcome (sent_bytes rate seed) bytes
 CommandOutcome (Show stage rate seed) words bytes outcome = outcome ≡ psdu_outcome (stage_text_of stage rate seed) bytes
 
 -- words and the bytes of the input have an outcome: that of the command which the words say, or `Words`
@@ -85,11 +89,13 @@ AreRefused words = (refusal : Refusal) × RefusesWords words refusal
 abbrev pub most_accepted : Command → ℕ
 most_accepted (Bits rate seed) = most_octets
 most_accepted (Decode rate length) = most_input
+most_accepted (Send rate seed) = most_octets
 most_accepted (Show stage rate seed) = most_octets
 
 abbrev pub most_taken : Command → ℕ
 most_taken (Bits rate seed) = most_octets + 1
 most_taken (Decode rate length) = most_input + 1
+most_taken (Send rate seed) = most_octets + 1
 most_taken (Show stage rate seed) = most_octets + 1
 
 -- the statuses that may follow an outcome: its own, a fault of a port, or want of memory
@@ -102,4 +108,5 @@ MayFollow (Refuses refusal) ended = (ended ≡ status_of refusal) ⊎ (ended ≡
 abbrev pub ReadsInput : Command → Type 0
 ReadsInput (Bits rate seed) = Unit {0}
 ReadsInput (Decode rate length) = Unit {0}
+ReadsInput (Send rate seed) = Unit {0}
 ReadsInput (Show stage rate seed) = Unit {0}

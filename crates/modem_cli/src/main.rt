@@ -3,7 +3,7 @@
 
 mod field;
 mod laws;
-mod points;
+mod lines;
 mod program;
 mod refusals;
 pub mod stages;

@@ -1,10 +1,12 @@
 //! One run of the program, over any ports.
-ghost use Rattle.std.specs.Prelude.{◌≡◌, ◌≢◌, ◌↔◌, ◌+◌, ◌<◌, ◌≤◌, ◌⊎◌, ℕ, List, length, IfOk, IfErr, IfSome, OnOk, IsErrOf};
+ghost use Rattle.std.specs.Prelude.{◌≡◌, ◌≢◌, ◌↔◌, ◌+◌, ◌<◌, ◌≤◌, ◌⊎◌, ℕ, List, length, IfOk, IfErr, IfSome, OnOk, OnErr, IsErrOf};
 ghost use Rattle.modem_ports.specs.Counts.{Rose};
-ghost use Rattle.modem_ports.specs.Told.{GivesAtMost, GivesExactly, IsAtEnd};
+ghost use Rattle.modem_ports.specs.Told.{GivesAtMost, GivesExactly, IsAtEnd, Takes, TakesPrefix};
 ghost use Rattle.bit_lists.specs.Bits.{AreBits};
 ghost use Rattle.bit_lists.specs.Text.{IsBadPlace, IsTextOf};
 ghost use Rattle.data_field.specs.Field.{most_octets};
+ghost use Rattle.modem_links.specs.Frames.{sent_bytes};
+ghost use Rattle.modem_cli.specs.Answers.{bytes_of_answer};
 ghost use Rattle.modem_cli.specs.Flips.{IsFlippedText, IsWrittenUnlessNoMemory};
 ghost use Rattle.modem_cli.specs.declared.words.Command.{Command};
 ghost use Rattle.modem_cli.specs.declared.refusals.Refusal.{Refusal};
@@ -17,12 +19,21 @@ use crate::refusals::{Refusal, Status, line_of};
 use crate::stages::stage_text;
 use crate::words::{Command, Stage, read_words};
 use bit_lists::{TextFault, read_text};
-use modem_links::decode_field;
+use capture_files::write_samples;
+use fixed_complex::Sample;
 use modem_links::laws::{few_flips, one_field};
-use modem_ports::{ReadAllFault, Sink, Source, Steps, read_all, write_all};
+use modem_links::{decode_field, frame_samples};
+use modem_ports::{Failed, ReadAllFault, Sink, Source, Steps, read_all, write_all};
 use ofdm_scrambler::Seed;
 use rate_table::Rate;
 use std::alloc::Global;
+
+/// What a command writes.
+#[derive(Drop)]
+enum Answer {
+    Bytes(Vec<u8>),
+    Samples(Vec<Sample>),
+}
 
 /// The most octets of a PSDU.
 const MOST_OCTETS: usize = 4095;
@@ -159,22 +170,35 @@ fn execute<S: Source, K: Sink>(
         return Err(Refusal::Words);
     };
     let answer = answer_of(alloc, command, source, steps)?;
-    match write_all(out, &answer) {
+    match write_answer(&answer, out) {
         Ok(()) => Ok(()),
         Err(_) => Err(Refusal::WriteFault),
     }
 }
 
-/// The bytes that a command writes.
+/// Writes the bytes of an answer.
+fn write_answer<K: Sink>(answer: &Answer, out: &mut K) -> Result<(), Failed>
+    ensures ok { OnOk result (Takes (K.taken out.old) (bytes_of_answer answer.now) (K.taken out.new)) }
+    ensures failed { OnErr result (Rose (K.faults out.old) (K.faults out.new)) }
+    ensures prefix { OnErr result (TakesPrefix (K.taken out.old) (bytes_of_answer answer.now) (K.taken out.new)) }
+    ensures counted { K.faults out.old ≤ K.faults out.new }
+{
+    match answer {
+        Answer::Bytes(bytes) => write_all(out, bytes),
+        Answer::Samples(samples) => write_samples(samples, out),
+    }
+}
+
+/// What a command writes.
 fn answer_of<S: Source>(
     alloc: Global,
     command: Command,
     source: &mut S,
     steps: &mut Steps,
-) -> Result<Vec<u8>, Refusal>
+) -> Result<Answer, Refusal>
     requires { IsInRange command }
     ensures ok { IfOk result (λ answer. IfSome (S.left source.old) (λ bytes.
-        (words : List (List ℕ)) → CommandOutcome command words bytes (Writes answer.items))) }
+        (words : List (List ℕ)) → CommandOutcome command words bytes (Writes (bytes_of_answer answer)))) }
     ensures end { IfOk result (λ _. IsAtEnd (S.left source.new)) }
     ensures read_at_most { GivesAtMost (most_taken command) (S.left source.old) (S.left source.new) }
     ensures outcome { IfErr result (λ refusal. IsDecided (status_of refusal)
@@ -193,6 +217,7 @@ fn answer_of<S: Source>(
     match command {
         Command::Bits { rate, seed } => psdu_text(alloc, Stage::Kept, rate, seed, source),
         Command::Decode { rate, length } => decoded(alloc, rate, length, source, steps),
+        Command::Send { rate, seed } => psdu_samples(alloc, rate, seed, source),
         Command::Show { stage, rate, seed } => psdu_text(alloc, stage, rate, seed, source),
     }
 }
@@ -204,9 +229,9 @@ fn psdu_text<S: Source>(
     rate: Rate,
     seed: Seed,
     source: &mut S,
-) -> Result<Vec<u8>, Refusal>
+) -> Result<Answer, Refusal>
     ensures ok { IfOk result (λ text. IfSome (S.left source.old) (λ bytes.
-        Writes text.items ≡ psdu_outcome (stage_text_of stage rate seed) bytes)) }
+        Writes (bytes_of_answer text) ≡ psdu_outcome (stage_text_of stage rate seed) bytes)) }
     ensures end { IfOk result (λ _. IsAtEnd (S.left source.new)) }
     ensures read_at_most { GivesAtMost (most_octets + 1) (S.left source.old) (S.left source.new) }
     ensures outcome { IfErr result (λ refusal. IsDecided (status_of refusal)
@@ -222,7 +247,33 @@ fn psdu_text<S: Source>(
     ensures counted { S.faults source.old ≤ S.faults source.new }
 {
     let psdu = read_psdu(alloc, source)?;
-    Ok(stage_text(alloc, stage, rate, seed, &psdu)?)
+    Ok(Answer::Bytes(stage_text(alloc, stage, rate, seed, &psdu)?))
+}
+
+/// The samples of a frame, for a PSDU that is read.
+fn psdu_samples<S: Source>(
+    alloc: Global,
+    rate: Rate,
+    seed: Seed,
+    source: &mut S,
+) -> Result<Answer, Refusal>
+    ensures ok { IfOk result (λ samples. IfSome (S.left source.old) (λ bytes.
+        Writes (bytes_of_answer samples) ≡ psdu_outcome (sent_bytes rate seed) bytes)) }
+    ensures end { IfOk result (λ _. IsAtEnd (S.left source.new)) }
+    ensures read_at_most { GivesAtMost (most_octets + 1) (S.left source.old) (S.left source.new) }
+    ensures outcome { IfErr result (λ refusal. IsDecided (status_of refusal)
+        → IfSome (S.left source.old) (λ bytes. Refuses refusal ≡ psdu_outcome (sent_bytes rate seed) bytes)) }
+    ensures kind { IfErr result (λ refusal.
+        (refusal ≢ Refusal.Words) × (refusal ≢ Refusal.LongCapture) × (refusal ≢ Refusal.WriteFault)) }
+    ensures read_fault { IsErrOf result Refusal.ReadFault → Rose (S.faults source.old) (S.faults source.new) }
+    ensures read_to_limit { IsErrOf result Refusal.LongPsdu
+        → GivesExactly (most_octets + 1) (S.left source.old) (S.left source.new) }
+    ensures read_fault_within { IsErrOf result Refusal.ReadFault
+        → GivesAtMost most_octets (S.left source.old) (S.left source.new) }
+    ensures counted { S.faults source.old ≤ S.faults source.new }
+{
+    let psdu = read_psdu(alloc, source)?;
+    Ok(Answer::Samples(frame_samples(alloc, rate, seed, &psdu)?))
 }
 
 /// A PSDU of 1 to 4095 octets, read to the end of input.
@@ -263,10 +314,10 @@ fn decoded<S: Source>(
     length: u16,
     source: &mut S,
     steps: &mut Steps,
-) -> Result<Vec<u8>, Refusal>
+) -> Result<Answer, Refusal>
     requires { IsLength length }
     ensures ok { IfOk result (λ octets. IfSome (S.left source.old) (λ bytes.
-        DecodeOutcome rate length bytes (Writes octets.items))) }
+        DecodeOutcome rate length bytes (Writes (bytes_of_answer octets)))) }
     ensures end { IfOk result (λ _. IsAtEnd (S.left source.new)) }
     ensures read_at_most { GivesAtMost (most_input + 1) (S.left source.old) (S.left source.new) }
     ensures outcome { IfErr result (λ refusal. IsDecided (status_of refusal)
@@ -316,10 +367,11 @@ fn octets_in_text(
     octets: u16,
     text: &[u8],
     steps: &mut Steps,
-) -> Result<Vec<u8>, Refusal>
+) -> Result<Answer, Refusal>
     requires octets { IsLength octets }
     requires most { length text.now ≤ most_input }
-    ensures ok { IfOk result (λ psdu. DecodeOutcome rate octets text.now (Writes psdu.items)) }
+    ensures ok { IfOk result (λ psdu.
+        DecodeOutcome rate octets text.now (Writes (bytes_of_answer psdu))) }
     ensures outcome { IfErr result (λ refusal. IsDecided (status_of refusal)
         → DecodeOutcome rate octets text.now (Refuses refusal)) }
     ensures kind { IfErr result (λ refusal. refusal ≢ Refusal.NoMemory → status_of refusal ≡ Status.BadInput) }
@@ -335,7 +387,7 @@ fn octets_in_text(
         });
     }
     let field = decode_field(alloc, rate, octets, &bits, steps)?;
-    Ok(field.psdu.into_vec())
+    Ok(Answer::Bytes(field.psdu.into_vec()))
 }
 
 /// The bits of a text.

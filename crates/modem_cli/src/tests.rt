@@ -1,12 +1,13 @@
 //! Runs over ports in memory, with the rows of the commands.
 use crate::program::run;
 use crate::refusals::Status;
+use byteorder::{ByteOrder, LittleEndian};
 use modem_ports::{MemSink, MemSource, Source, Steps};
 use std::alloc::{AllocError, Global};
 use std::test::Fail;
 
 /// Room for what a test writes.
-const ROOM: usize = 300_000;
+const ROOM: usize = 500_000;
 
 /// The words of a command line.
 fn words_of(alloc: Global, line: &str) -> Result<Vec<String>, AllocError> {
@@ -64,7 +65,7 @@ fn refuses_words(rt: HostRuntime) -> Result<(), Fail> {
         "bits 6 +1",
         "bits 6",
         "bits 6 93 1",
-        "show header 6 93",
+        "show headers 6 93",
         "show kept 6",
         "decode 6 0",
         "decode 6 4096",
@@ -96,12 +97,17 @@ fn refuses_words(rt: HostRuntime) -> Result<(), Fail> {
 
 #[test]
 fn refuses_an_empty_psdu(rt: HostRuntime) -> Result<(), Fail> {
-    let mut source = MemSource::open(rt.alloc(), &[], 64, &[])?;
-    let mut out = MemSink::open(rt.alloc(), ROOM, 64, &[])?;
-    let ran = run_line(rt.alloc(), "bits 6 93", &mut source, &mut out)?;
-    assert!(rt; ran.0 == Status::BadInput);
-    assert!(rt; out.taken().is_empty());
-    assert!(rt; ran.1.as_slice() == b"error 2: empty psdu\n".as_slice());
+    for line in ["bits 6 93", "send 36 93"] {
+        let mut source = MemSource::open(rt.alloc(), &[], 64, &[])?;
+        let mut out = MemSink::open(rt.alloc(), ROOM, 64, &[])?;
+        let ran = run_line(rt.alloc(), line, &mut source, &mut out)?;
+        assert!(rt; ran.0 == Status::BadInput, "status of {line}");
+        assert!(rt; out.taken().is_empty(), "answer of {line}");
+        assert!(rt;
+            ran.1.as_slice() == b"error 2: empty psdu\n".as_slice(),
+            "report of {line}"
+        );
+    }
     Ok(())
 }
 
@@ -143,10 +149,14 @@ fn begins_the_longer_answers(rt: HostRuntime) -> Result<(), Fail> {
 #[test]
 fn takes_one_octet_too_many_and_no_more(rt: HostRuntime) -> Result<(), Fail> {
     let mut out = MemSink::open(rt.alloc(), ROOM, 1000, &[])?;
-    for (count, left) in [(4096, 0), (5000, 904)] {
+    for (line, count, left) in [
+        ("bits 6 93", 4096, 0),
+        ("bits 6 93", 5000, 904),
+        ("send 36 93", 4096, 0),
+    ] {
         let octets = vec![in rt.alloc(); 0u8; count]?;
         let mut source = MemSource::open(rt.alloc(), &octets, 1000, &[])?;
-        let ran = run_line(rt.alloc(), "bits 6 93", &mut source, &mut out)?;
+        let ran = run_line(rt.alloc(), line, &mut source, &mut out)?;
         assert!(rt; ran.0 == Status::BadInput, "status at {count}");
         assert!(rt;
             ran.1.as_slice() == b"error 3: psdu over 4095 octets\n".as_slice(),
@@ -262,11 +272,14 @@ fn run_where_memory_may_want(
 #[test]
 fn answers_or_wants_memory(rt: HostRuntime) -> Result<(), Fail> {
     let kept_at_9 = b"001010110000100010100001001011001000001111101100";
-    let rows: [(&str, &[u8], usize); 4] = [
+    let rows: [(&str, &[u8], usize); 7] = [
         ("bits 9 93", &[0], 49),
         ("show interleaved 48 93", &[0], 289),
         ("show points 9 93", &[0], 317),
         ("decode 9 1", kept_at_9, 1),
+        ("show header 9 93", &[0], 49),
+        ("send 9 93", &[0], 1920),
+        ("show samples 9 93", &[0], 4657),
     ];
     for (line, input, count) in rows {
         match run_where_memory_may_want(rt.alloc(), line, input) {
@@ -345,6 +358,157 @@ fn refuses_texts_of_bits(rt: HostRuntime) -> Result<(), Fail> {
         assert!(rt; ran.0 == Status::BadInput);
         assert!(rt; out.taken().is_empty());
         assert!(rt; ran.1.as_slice() == report);
+    }
+    Ok(())
+}
+
+/// The octets 0 to 99.
+fn a_hundred_octets() -> [u8; 100] {
+    let mut octets = [0; 100];
+    for octet in 0..100u8 {
+        octets[usize::from(octet)] = octet;
+    }
+    octets
+}
+
+// Places of bytes, and the four bytes there: samples 0 and 192, the first of DATA symbols 0 and 3, and the last.
+const BYTES: [(usize, [u8; 4]); 5] = [
+    (0, [0xBA, 0x03, 0xBA, 0x03]),
+    (768, [0xA8, 0x0C, 0x00, 0x00]),
+    (1600, [0xFD, 0xF3, 0xEC, 0xF8]),
+    (2624, [0xA9, 0xF4, 0x01, 0x04]),
+    (3516, [0x90, 0xF6, 0x48, 0x00]),
+];
+
+#[test]
+fn sends_a_frame(rt: HostRuntime) -> Result<(), Fail> {
+    let mut source = MemSource::open(rt.alloc(), &a_hundred_octets(), 64, &[])?;
+    let mut out = MemSink::open(rt.alloc(), ROOM, 1000, &[])?;
+    let ran = run_line(rt.alloc(), "send 36 93", &mut source, &mut out)?;
+    assert!(rt; ran.0 == Status::Ok);
+    assert!(rt; ran.1.is_empty());
+    assert_eq!(rt; out.taken().len(), 3520);
+    for (place, bytes) in BYTES {
+        assert!(rt;
+            out.taken().get(place..place + 4) == Some(bytes.as_slice()),
+            "bytes at {place}"
+        );
+    }
+    Ok(())
+}
+
+#[test]
+fn shows_a_header_and_samples(rt: HostRuntime) -> Result<(), Fail> {
+    let rows: [(&str, usize, &str); 2] = [
+        (
+            "show header 36 93",
+            49,
+            "110100011010000100000010001111100111000000000000\n",
+        ),
+        (
+            "show samples 36 93",
+            8725,
+            "954 954\n-2747 49\n-279 -1629\n",
+        ),
+    ];
+    for (line, count, front) in rows {
+        let mut source = MemSource::open(rt.alloc(), &a_hundred_octets(), 64, &[])?;
+        let mut out = MemSink::open(rt.alloc(), ROOM, 1000, &[])?;
+        let ran = run_line(rt.alloc(), line, &mut source, &mut out)?;
+        assert!(rt; ran.0 == Status::Ok, "status of {line}");
+        assert_eq!(rt; out.taken().len(), count, "length of {line}");
+        assert!(rt;
+            out.taken().starts_with(front.as_bytes()),
+            "front of {line}"
+        );
+    }
+    Ok(())
+}
+
+/// Whether no component of the samples of these bytes is larger than 25057 in size.
+fn are_within_full_scale(bytes: &[u8]) -> bool {
+    bytes.chunks_exact(2).all(|bytes| LittleEndian::read_i16(bytes).unsigned_abs() <= 25057)
+}
+
+// A command line, the octet of all 4095, how many bytes there are, a place and the bytes there, and the last bytes. The
+// place at 6 Mb/s is in DATA symbol 126, whose polarity is that of SIGNAL.
+#[test]
+fn sends_the_longest_psdus(rt: HostRuntime) -> Result<(), Fail> {
+    let rows: [(&str, u8, usize, usize, [u8; 4], [u8; 8]); 2] = [
+        (
+            "send 6 1",
+            0,
+            438720,
+            41984,
+            [0xA8, 0x0C, 0x00, 0x00],
+            [0x3E, 0x02, 0xFE, 0x05, 0x49, 0xF5, 0xE0, 0x02],
+        ),
+        (
+            "send 54 127",
+            0xFF,
+            50240,
+            2624,
+            [0x38, 0xF7, 0x38, 0xFF],
+            [0xCD, 0xFF, 0x28, 0x0B, 0x11, 0x03, 0x65, 0x09],
+        ),
+    ];
+    for (line, octet, count, place, bytes, last) in rows {
+        let octets = vec![in rt.alloc(); octet; 4095]?;
+        let mut source = MemSource::open(rt.alloc(), &octets, 1000, &[])?;
+        let mut out = MemSink::open(rt.alloc(), ROOM, 4096, &[])?;
+        let ran = run_line(rt.alloc(), line, &mut source, &mut out)?;
+        assert!(rt; ran.0 == Status::Ok, "status of {line}");
+        assert_eq!(rt; out.taken().len(), count, "length of {line}");
+        assert!(rt;
+            out.taken().get(place..place + 4) == Some(bytes.as_slice()),
+            "bytes of {line}"
+        );
+        assert!(rt; out.taken().ends_with(&last), "end of {line}");
+        assert!(rt; are_within_full_scale(out.taken()), "scale of {line}");
+    }
+    Ok(())
+}
+
+// Two calls give the octets, and the third finds the end.
+#[test]
+fn reports_a_failing_source_of_a_frame(rt: HostRuntime) -> Result<(), Fail> {
+    for call in 1..5u64 {
+        let mut source = MemSource::open(rt.alloc(), &a_hundred_octets(), 64, &[call])?;
+        let mut out = MemSink::open(rt.alloc(), ROOM, 1000, &[])?;
+        let ran = run_line(rt.alloc(), "send 36 93", &mut source, &mut out)?;
+        let failed = call < 4;
+        assert!(rt; (ran.0 == Status::ReadFault) == failed, "status at {call}");
+        assert!(rt; out.taken().is_empty() == failed, "answer at {call}");
+        let report: &[u8] = if failed {
+            b"error 10: read fault\n"
+        } else {
+            b""
+        };
+        assert!(rt; ran.1.as_slice() == report, "report at {call}");
+    }
+    Ok(())
+}
+
+#[test]
+fn reports_a_failing_sink_of_a_frame(rt: HostRuntime) -> Result<(), Fail> {
+    let mut source = MemSource::open(rt.alloc(), &a_hundred_octets(), 64, &[])?;
+    let mut whole = MemSink::open(rt.alloc(), 4000, 1000, &[])?;
+    run_line(rt.alloc(), "send 36 93", &mut source, &mut whole)?;
+    for call in 1..5u64 {
+        let mut source = MemSource::open(rt.alloc(), &a_hundred_octets(), 64, &[])?;
+        let mut out = MemSink::open(rt.alloc(), 4000, 1000, &[call])?;
+        let ran = run_line(rt.alloc(), "send 36 93", &mut source, &mut out)?;
+        assert!(rt; ran.0 == Status::WriteFault, "status at {call}");
+        assert_eq!(rt;
+            out.taken().len(),
+            1000 * (call as usize - 1),
+            "bytes at {call}"
+        );
+        assert!(rt; whole.taken().starts_with(out.taken()), "prefix at {call}");
+        assert!(rt;
+            ran.1.as_slice() == b"error 11: write fault\n".as_slice(),
+            "report at {call}"
+        );
     }
     Ok(())
 }

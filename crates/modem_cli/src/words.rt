@@ -14,6 +14,8 @@ const MOST_OCTETS: u32 = 4095;
 /// A stage of the transmitter, whose text `show` writes (own).
 #[derive(Clone, Copy, Debug, PartialEq, Eq)]
 pub enum Stage {
+    /// The code of SIGNAL.
+    Header,
     /// The bits of the DATA field.
     Scrambled,
     /// Its code before puncturing.
@@ -24,6 +26,8 @@ pub enum Stage {
     Interleaved,
     /// The points of all its symbols.
     Points,
+    /// The samples of the frame.
+    Samples,
 }
 
 /// What the words ask for (own).
@@ -39,6 +43,11 @@ pub enum Command {
         rate: Rate,
         length: u16,
     },
+    /// `send RATE SEED`
+    Send {
+        rate: Rate,
+        seed: Seed,
+    },
     /// `show STAGE RATE SEED`
     Show {
         stage: Stage,
@@ -49,8 +58,8 @@ pub enum Command {
 
 /// The command that the words say, without the program's name (own): `None` exactly where they say none. RATE is a
 /// number of megabits a second, 6 to 54 by the table of the rates, SEED is from 1 to 127 and LENGTH from 1 to 4095, all
-/// in decimal digits with no sign and no leading zero; a stage is `scrambled`, `coded`, `kept`, `interleaved` or
-/// `points`. Takes no memory.
+/// in decimal digits with no sign and no leading zero; a stage is `scrambled`, `coded`, `kept`, `interleaved`, `points`,
+/// `header` or `samples`. Takes no memory.
 pub fn read_words(words: &Vec<String>) -> Option<Command>
     ensures command { IfSome result (Say (texts_of words.now)) }
     ensures none { IfNone result (SayNothing (texts_of words.now)) }
@@ -60,6 +69,7 @@ pub fn read_words(words: &Vec<String>) -> Option<Command>
         [name, rate, length] if name.as_str() == "decode" => {
             read_decode(rate.as_str(), length.as_str())
         }
+        [name, rate, seed] if name.as_str() == "send" => read_send(rate.as_str(), seed.as_str()),
         [name, stage, rate, seed] if name.as_str() == "show" => {
             read_show(stage.as_str(), rate.as_str(), seed.as_str())
         }
@@ -85,6 +95,16 @@ fn read_decode(rate: &str, length: &str) -> Option<Command>
     let rate = read_rate(rate)?;
     let length = read_length(length)?;
     Some(Command::Decode { rate, length })
+}
+
+/// The command `send` with these words behind it.
+fn read_send(rate: &str, seed: &str) -> Option<Command>
+    ensures command { IfSome result (Say (codes "send" ∷ rate.now ∷ seed.now ∷ [])) }
+    ensures none { IfNone result (SayNothing (codes "send" ∷ rate.now ∷ seed.now ∷ [])) }
+{
+    let rate = read_rate(rate)?;
+    let seed = read_seed(seed)?;
+    Some(Command::Send { rate, seed })
 }
 
 /// The command `show` with these words behind it.
@@ -139,6 +159,8 @@ fn read_stage(word: &str) -> Option<Stage>
         "kept" => Some(Stage::Kept),
         "interleaved" => Some(Stage::Interleaved),
         "points" => Some(Stage::Points),
+        "header" => Some(Stage::Header),
+        "samples" => Some(Stage::Samples),
         _ => None,
     }
 }

@@ -1,6 +1,7 @@
 use Rattle.std.proofs.Common.{◌*◌, ◌∙◌, ap, take, drop}
 use Rattle.rate_table.specs.Table.{row_of}
-use Rattle.modem_cli.proofs.Symbols.{symbol_appended, part_is}
+use Rattle.modem_links.proofs.Begun.{part_is}
+use Rattle.modem_cli.proofs.Symbols.{symbol_appended}
 use Rattle.modem_cli.proofs.field.interleaved_code.Goals as goal
 
 pub loop-m-preserved : goal.loop-m-preserved

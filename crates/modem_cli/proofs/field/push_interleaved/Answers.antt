@@ -4,4 +4,4 @@ use Rattle.modem_cli.proofs.field.push_interleaved.Goals as goal
 
 pub returns-clause-bits : goal.returns-clause-bits
 returns-clause-bits c = λ old.
-    rw c.in_ok-extend_from_slice.ensures.items (All-append IsBit _ _ old (All-take IsBit _ _ c.interleave-places.ensures.bits))
+    rw c.in_ok-extend_from_slice.ensures.items (All-append IsBit _ _ old (All-take IsBit _ _ c.interleaved_symbol-places.ensures.bits))

@@ -1,7 +1,8 @@
 use Rattle.std.proofs.Common.{◌*◌, ◌∙◌, ap, take, drop}
 use Rattle.rate_table.specs.Table.{row_of}
-use Rattle.modem_cli.proofs.Symbols.{points_appended, part_is}
-use Rattle.modem_cli.proofs.points.points_text.Goals as goal
+use Rattle.modem_links.proofs.Begun.{part_is}
+use Rattle.modem_cli.proofs.Symbols.{points_appended}
+use Rattle.modem_cli.proofs.lines.points_text.Goals as goal
 
 pub loop-m-preserved : goal.loop-m-preserved
 loop-m-preserved c =
