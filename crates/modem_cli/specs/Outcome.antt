@@ -33,7 +33,7 @@ stage_text_of Coded rate seed psdu = text_of_bits (code_at rate seed psdu)
 stage_text_of Kept rate seed psdu = text_of_bits (kept_at rate seed psdu)
 stage_text_of Interleaved rate seed psdu = text_of_bits (interleaved_at rate seed psdu)
 stage_text_of Points rate seed psdu = text_of_pairs (points_at rate seed psdu)
-stage_text_of Header rate seed psdu = text_of_bits (signal_code rate psdu)
+stage_text_of Header rate seed psdu = text_of_bits (signal_code rate (length psdu))
 stage_text_of Samples rate seed psdu = text_of_samples (sent_frame rate seed psdu)
 
 -- the outcome of a command that reads a PSDU and writes this of it

@@ -6,10 +6,9 @@ use crate::field::{frame_code, interleaved_code};
 use crate::lines::{points_text, samples_text};
 use crate::words::Stage;
 use bit_lists::put_text;
-use modem_links::coded;
+use modem_links::{coded, signal_code};
 use ofdm_scrambler::Seed;
 use rate_table::Rate;
-use signal_field::{Header, header_code};
 use std::alloc::{AllocError, Global};
 use symbol_builder::frame_field;
 
@@ -33,21 +32,7 @@ pub fn stage_text(
         Stage::Kept => put_text(alloc, &coded(alloc, rate, seed, psdu)?),
         Stage::Interleaved => put_text(alloc, &interleaved_code(alloc, rate, seed, psdu)?),
         Stage::Points => points_text(alloc, rate, seed, psdu),
-        Stage::Header => put_text(alloc, &header_code(&header_of(rate, psdu))),
+        Stage::Header => put_text(alloc, &signal_code(rate, psdu.len() as u16)),
         Stage::Samples => samples_text(alloc, rate, seed, psdu),
-    }
-}
-
-/// The header of a PSDU's frame.
-fn header_of(rate: Rate, psdu: &[u8]) -> Header
-    requires { length psdu.now ≤ 4095 }
-    ensures rate { result.rate ≡ rate }
-    ensures length { result.length ≡ length psdu.now }
-    ensures reserved { result.reserved ≡ 0 }
-{
-    Header {
-        rate,
-        length: psdu.len() as u16,
-        reserved: 0,
     }
 }

@@ -39,7 +39,7 @@ no_symbols body rate seed psdu = append-nil _
 
 -- the preamble and SIGNAL
 pub head_is : {A : Type 0} (body : (ℕ → Cx) → ℕ → A) (rate : Rate) (seed : ℕ) (psdu : List ℕ)
-    → preamble_of body ++ symbol_times (body (symbol_bin (points_of_code R6 (signal_code rate psdu)) 0)) ≡ begun_frame body rate seed psdu 1
+    → preamble_of body ++ symbol_times (body (symbol_bin (points_of_code R6 (signal_code rate (length psdu))) 0)) ≡ begun_frame body rate seed psdu 1
 unfolding begun_frame
 head_is body rate seed psdu = ap (λ symbols. preamble_of body ++ symbols) (sym (append-nil _))
 

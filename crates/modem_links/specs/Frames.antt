@@ -15,13 +15,13 @@ use Rattle.symbol_builder.specs.Points.{data_points, points_of_code}
 use Rattle.training_fields.specs.Bodies.{plain_body, sent_body}
 use Rattle.training_fields.specs.Training.{preamble_of}
 
--- the code of SIGNAL: that of its 24 bits, of which the reserved one is 0
-abbrev pub signal_code : Rate → List ℕ → List ℕ
-signal_code rate psdu = code_of (header_bits_of rate (length psdu) 0)
+-- the code of SIGNAL, for a PSDU of so many octets: that of its 24 bits, of which the reserved one is 0
+abbrev pub signal_code : Rate → ℕ → List ℕ
+signal_code rate octets = code_of (header_bits_of rate octets 0)
 
 -- the points of symbol n of a frame: symbol 0 is SIGNAL, sent as at 6 Mb/s, and symbol m + 1 is DATA symbol m
 abbrev pub frame_points : Rate → ℕ → List ℕ → ℕ → List Cx
-frame_points rate seed psdu zero = points_of_code R6 (signal_code rate psdu)
+frame_points rate seed psdu zero = points_of_code R6 (signal_code rate (length psdu))
 frame_points rate seed psdu (suc m) = data_points rate seed psdu m
 
 -- what stands in a bin of symbol n

@@ -2,17 +2,15 @@
 ghost use Rattle.std.specs.Prelude.{◌≡◌, ℕ, ◌+◌, ◌*◌, ◌≤◌, ◌++◌, List, length, take, slice_index, IfOk, OnOk, IsErrOf, alloc_error};
 ghost use Rattle.bit_lists.specs.Bits.{AreBits};
 ghost use Rattle.butterfly64.specs.Bounds.{AreWithin};
-ghost use Rattle.conv_code.specs.Code.{code_of};
 ghost use Rattle.fixed_complex.specs.declared.Cx.{Cx};
 ghost use Rattle.interleave_two.specs.Place.{interleaved};
-ghost use Rattle.modem_links.specs.Frames.{plain_frame, sent_bytes, sent_frame};
+ghost use Rattle.modem_links.specs.Frames.{plain_frame, sent_bytes, sent_frame, signal_code};
 ghost use Rattle.modem_links.specs.declared.frames.SendFault.TheVariants.{NoMemory};
 ghost use Rattle.modem_ports.specs.Counts.{Rose};
 ghost use Rattle.modem_ports.specs.Told.{Takes, TakesPrefix};
 ghost use Rattle.rate_table.specs.Symbols.{symbol_count};
 ghost use Rattle.rate_table.specs.Table.{row_of};
 ghost use Rattle.rate_table.specs.declared.Rate.TheVariants.{R6};
-ghost use Rattle.signal_field.specs.Signal.{header_bits_of};
 ghost use Rattle.symbol_builder.specs.Carriers.{plain_symbol, sent_symbol};
 ghost use Rattle.symbol_builder.specs.Points.{points_of_code};
 ghost use Rattle.training_fields.specs.Bodies.{plain_body, sent_body};
@@ -122,19 +120,29 @@ fn frame_head(alloc: Global, rate: Rate, octets: u16) -> Result<Vec<Sample>, All
     requires some { 1 ≤ octets }
     requires most { octets ≤ 4095 }
     ensures samples { IfOk result (λ samples. samples.items
-        ≡ preamble_of sent_body ++ sent_symbol (points_of_code R6 (code_of (header_bits_of rate octets 0))) 0) }
+        ≡ preamble_of sent_body ++ sent_symbol (points_of_code R6 (signal_code rate octets)) 0) }
     ensures len { IfOk result (λ samples. length samples.items ≡ 400) }
 {
-    let header = Header {
-        rate,
-        length: octets,
-        reserved: 0,
-    };
-    let points = points_of_code(Rate::R6, &header_code(&header));
+    let points = points_of_code(Rate::R6, &signal_code(rate, octets));
     let mut samples = Vec::with_capacity(alloc, frame_len(rate, octets) as usize)?;
     samples.extend_from_slice(&preamble())?;
     push_symbol(&mut samples, &points, 0)?;
     Ok(samples)
+}
+
+/// The 48 bits of SIGNAL's code, before they are interleaved, for a PSDU of so many octets, 1 to 4095; the reserved bit
+/// is 0 (IEEE Std 802.11-2012, 18.3.4). Takes no memory.
+pub fn signal_code(rate: Rate, octets: u16) -> [u8; 48]
+    requires some { 1 ≤ octets }
+    requires most { octets ≤ 4095 }
+    ensures code { result ≡ signal_code rate octets }
+    ensures bits { AreBits result }
+{
+    header_code(&Header {
+        rate,
+        length: octets,
+        reserved: 0,
+    })
 }
 
 // Appends the samples of symbol n.

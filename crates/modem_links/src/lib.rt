@@ -19,7 +19,7 @@ ghost use Rattle.rate_table.specs.Table.{row_of};
 
 use bit_lists::{Octets, bytes_of};
 use conv_code::encode;
-pub use frames::{SendFault, frame_samples, interleaved_symbol, points_of_code, send};
+pub use frames::{SendFault, frame_samples, interleaved_symbol, points_of_code, send, signal_code};
 use modem_ports::Steps;
 use ofdm_scrambler::{Seed, descramble_in_place, seed_of_front};
 use puncture_map::puncture;
