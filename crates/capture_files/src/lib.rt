@@ -1,15 +1,16 @@
 //! Capture files: samples as bytes, four a sample, without header or trailer (own).
 #![tactic(auto)]
 
-ghost use Rattle.std.specs.Prelude.{◌≡◌, ◌%◌, ◌*◌, ◌≤◌, ◌^◌, ◌++◌, ℕ, length, take, drop, IfOk, OnOk, OnErr, IsErrOf, alloc_error};
+ghost use Rattle.std.specs.Prelude.{◌≡◌, ◌+◌, ◌%◌, ◌*◌, ◌≤◌, ◌^◌, ◌++◌, ℕ, length, take, drop, IfOk, OnOk, OnErr, IsErrOf, alloc_error};
 ghost use Rattle.modem_ports.specs.Counts.{Rose};
+ghost use Rattle.modem_ports.specs.Limits.{most_input};
 ghost use Rattle.modem_ports.specs.Told.{Gives, GivesAtMost, GivesExactly, IsAtEnd, Takes, TakesPrefix};
 ghost use Rattle.capture_files.specs.Captures.{AreSamples, IsSample, IsTorn, bytes_of_sample, bytes_of_samples};
 ghost use Rattle.capture_files.specs.declared.CaptureFault.TheVariants.{NoMemory};
 
 use byteorder::{ByteOrder, LittleEndian};
 use fixed_complex::Sample;
-use modem_ports::{Failed, ReadAllFault, Sink, Source, read_all, write_all};
+use modem_ports::{Failed, MOST_INPUT, ReadAllFault, Sink, Source, read_all, write_all};
 use std::alloc::{AllocError, Global};
 use thiserror::Error;
 
@@ -45,9 +46,6 @@ impl From<AllocError> for CaptureFault {
 /// The bytes of a sample.
 const SAMPLE: usize = 4;
 
-/// The most bytes of a capture: 2^24 samples.
-const MOST_BYTES: usize = 67108864;
-
 /// The bytes that are handed to a sink at once.
 const PIECE: usize = 4096;
 
@@ -68,19 +66,19 @@ pub fn read_capture<S: Source>(alloc: Global, source: &mut S) -> Result<Vec<Samp
     ensures torn_after { (bytes : ℕ) → IsErrOf result (CaptureFault.Torn bytes)
         → GivesExactly bytes (S.left source.old) (S.left source.new) }
     ensures torn_end { (bytes : ℕ) → IsErrOf result (CaptureFault.Torn bytes) → IsAtEnd (S.left source.new) }
-    ensures torn_within { (bytes : ℕ) → IsErrOf result (CaptureFault.Torn bytes) → bytes ≤ 67108864 }
+    ensures torn_within { (bytes : ℕ) → IsErrOf result (CaptureFault.Torn bytes) → bytes ≤ most_input }
     ensures long { IsErrOf result CaptureFault.Long
-        → GivesExactly 67108865 (S.left source.old) (S.left source.new) }
+        → GivesExactly (most_input + 1) (S.left source.old) (S.left source.new) }
     ensures failed { IsErrOf result CaptureFault.Failed
         → Rose (S.faults source.old) (S.faults source.new) }
     ensures failed_within { IsErrOf result CaptureFault.Failed
-        → GivesAtMost 67108864 (S.left source.old) (S.left source.new) }
+        → GivesAtMost most_input (S.left source.old) (S.left source.new) }
     ensures no_memory_within { IsErrOf result (CaptureFault.NoMemory alloc_error)
-        → GivesAtMost 67108864 (S.left source.old) (S.left source.new) }
-    ensures taken { GivesAtMost 67108865 (S.left source.old) (S.left source.new) }
+        → GivesAtMost most_input (S.left source.old) (S.left source.new) }
+    ensures taken { GivesAtMost (most_input + 1) (S.left source.old) (S.left source.new) }
     ensures counted { S.faults source.old ≤ S.faults source.new }
 {
-    let bytes = match read_all(alloc, source, MOST_BYTES) {
+    let bytes = match read_all(alloc, source, MOST_INPUT) {
         Ok(bytes) => bytes,
         Err(ReadAllFault::Long) => return Err(CaptureFault::Long),
         Err(ReadAllFault::Failed) => return Err(CaptureFault::Failed),

@@ -18,7 +18,8 @@ use Rattle.modem_cli.specs.Grammar.{IsLength, Say, rate_and_seed, stage_word}
 use Rattle.rate_table.specs.Table.{row_of}
 use Rattle.ofdm_scrambler.specs.Sequence.{IsSeed}
 use Rattle.modem_links.specs.Frames.{sent_bytes}
-use Rattle.modem_cli.specs.Outcome.{Outcome, Writes, Refuses, CommandOutcome, DecodeOutcome, too_long, no_bit, wrong_count, of_field, bits_needed, most_input, HasOutcome, of_command, of_no_command, psdu_outcome, stage_text_of}
+use Rattle.modem_ports.specs.Limits.{most_input}
+use Rattle.modem_cli.specs.Outcome.{Outcome, Writes, Refuses, CommandOutcome, DecodeOutcome, too_long, no_bit, wrong_count, of_field, bits_needed, HasOutcome, of_command, of_no_command, psdu_outcome, stage_text_of}
 
 -- a fact or its contrary
 abbrev Decided : Type 0 → Type 0

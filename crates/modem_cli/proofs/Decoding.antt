@@ -10,7 +10,8 @@ use Rattle.rate_table.specs.Symbols.{symbol_count}
 use Rattle.rate_table.specs.Table.{row_of}
 use Rattle.modem_cli.specs.declared.refusals.Refusal.{Refusal}
 use Rattle.modem_cli.specs.declared.refusals.Refusal.TheVariants.{BadBit, BitCount, NoMemory}
-use Rattle.modem_cli.specs.Outcome.{Writes, Refuses, DecodeOutcome, no_bit, wrong_count, of_field, bits_needed, most_input}
+use Rattle.modem_ports.specs.Limits.{most_input}
+use Rattle.modem_cli.specs.Outcome.{Writes, Refuses, DecodeOutcome, no_bit, wrong_count, of_field, bits_needed}
 use Rattle.modem_cli.specs.Refusals.{status_of}
 use Rattle.modem_cli.specs.Report.{IsDecided}
 

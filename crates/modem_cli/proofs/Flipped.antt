@@ -13,7 +13,8 @@ use Rattle.rate_table.specs.Table.{row_of}
 use Rattle.modem_cli.specs.declared.refusals.Status.{Status}
 use Rattle.modem_cli.specs.declared.refusals.Status.TheVariants as status
 use Rattle.modem_cli.specs.Flips.{IsFlippedText, IsWrittenUnlessNoMemory}
-use Rattle.modem_cli.specs.Outcome.{Writes, HasOutcome, of_command, of_field, bits_needed, most_input}
+use Rattle.modem_ports.specs.Limits.{most_input}
+use Rattle.modem_cli.specs.Outcome.{Writes, HasOutcome, of_command, of_field, bits_needed}
 use Rattle.modem_cli.specs.Report.{TakesAnswer}
 use Rattle.modem_cli.proofs.Outcomes.{OneField, only_outcome}
 

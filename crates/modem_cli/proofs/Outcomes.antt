@@ -10,7 +10,8 @@ use Rattle.modem_cli.specs.Grammar.{Say, SayNothing}
 use Rattle.bit_lists.proofs.Texts.{apart, one_place, one_text}
 use Rattle.modem_links.specs.Fields.{IsFieldOf}
 use Rattle.rate_table.specs.declared.Rate.{Rate}
-use Rattle.modem_cli.specs.Outcome.{Outcome, Writes, Refuses, CommandOutcome, DecodeOutcome, too_long, no_bit, wrong_count, of_field, bits_needed, most_input, HasOutcome, of_command, of_no_command, IsOutcome, psdu_outcome}
+use Rattle.modem_ports.specs.Limits.{most_input}
+use Rattle.modem_cli.specs.Outcome.{Outcome, Writes, Refuses, CommandOutcome, DecodeOutcome, too_long, no_bit, wrong_count, of_field, bits_needed, HasOutcome, of_command, of_no_command, IsOutcome, psdu_outcome}
 use Rattle.modem_cli.specs.Report.{TakesAnswer, TakesAnswerPrefix}
 use Rattle.modem_cli.proofs.OneCommand.{one_command}
 

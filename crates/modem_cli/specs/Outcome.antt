@@ -8,6 +8,7 @@ use Rattle.rate_table.specs.Table.{row_of}
 use Rattle.modem_links.specs.Fields.{IsFieldOf}
 use Rattle.modem_links.specs.Frames.{sent_bytes, sent_frame, signal_code}
 use Rattle.data_field.specs.Field.{most_octets}
+use Rattle.modem_ports.specs.Limits.{most_input}
 use Rattle.data_field.specs.Stages.{field_at, code_at, kept_at, interleaved_at}
 use Rattle.symbol_builder.specs.Points.{points_at}
 use Rattle.modem_cli.specs.Pairs.{text_of_pairs, text_of_samples}
@@ -41,10 +42,6 @@ abbrev pub psdu_outcome : (List ℕ → List ℕ) → List ℕ → Outcome
 psdu_outcome answer bytes =
     if length bytes == 0 then Refuses EmptyPsdu
     else (if nat_lt most_octets (length bytes) then Refuses LongPsdu else Writes (answer bytes))
-
--- the most bytes of an input that is no PSDU
-abbrev pub most_input : ℕ
-most_input = 67108864
 
 -- how many bits `decode` needs: N_SYM * N_CBPS
 abbrev pub bits_needed : Rate → ℕ → ℕ

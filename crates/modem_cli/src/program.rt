@@ -11,7 +11,8 @@ ghost use Rattle.modem_cli.specs.Flips.{IsFlippedText, IsWrittenUnlessNoMemory};
 ghost use Rattle.modem_cli.specs.declared.words.Command.{Command};
 ghost use Rattle.modem_cli.specs.declared.refusals.Refusal.{Refusal};
 ghost use Rattle.modem_cli.specs.Grammar.{IsInRange, IsLength, Say, SayNothing, texts_of};
-ghost use Rattle.modem_cli.specs.Outcome.{Writes, Refuses, CommandOutcome, DecodeOutcome, HasOutcome, IsOutcome, AreRefused, MayFollow, Outcome, ReadsInput, most_accepted, most_input, most_taken, psdu_outcome, stage_text_of};
+ghost use Rattle.modem_ports.specs.Limits.{most_input};
+ghost use Rattle.modem_cli.specs.Outcome.{Writes, Refuses, CommandOutcome, DecodeOutcome, HasOutcome, IsOutcome, AreRefused, MayFollow, Outcome, ReadsInput, most_accepted, most_taken, psdu_outcome, stage_text_of};
 ghost use Rattle.modem_cli.specs.Refusals.{status_of};
 ghost use Rattle.modem_cli.specs.Report.{IsDecided, IsReported, TakesAnswer, TakesAnswerPrefix, TakesReport};
 
@@ -23,7 +24,7 @@ use capture_files::write_samples;
 use fixed_complex::Sample;
 use modem_links::laws::{few_flips, one_field};
 use modem_links::{decode_field, frame_samples};
-use modem_ports::{Failed, ReadAllFault, Sink, Source, Steps, read_all, write_all};
+use modem_ports::{Failed, MOST_INPUT, ReadAllFault, Sink, Source, Steps, read_all, write_all};
 use ofdm_scrambler::Seed;
 use rate_table::Rate;
 use std::alloc::Global;
@@ -37,9 +38,6 @@ enum Answer {
 
 /// The most octets of a PSDU.
 const MOST_OCTETS: usize = 4095;
-
-/// The most bytes of an input that is no PSDU.
-const MOST_INPUT: usize = 67_108_864;
 
 /// One run (own): the words are those of the command line without the program's name, `source` is read where the
 /// command reads its input, `out` takes the command's bytes and `report` the line of a refusal. `steps` counts the

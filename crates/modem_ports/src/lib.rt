@@ -16,7 +16,7 @@ pub use memory::{MemSink, MemSource};
 pub use standard::{StdSink, StdSource};
 pub use steps::Steps;
 use thiserror::Error;
-pub use whole::{ReadAllFault, read_all, write_all};
+pub use whole::{MOST_INPUT, ReadAllFault, read_all, write_all};
 
 /// The answer of a port that failed (own).
 #[derive(Clone, Copy, Debug, Error, PartialEq, Eq)]

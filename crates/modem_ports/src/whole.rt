@@ -1,6 +1,7 @@
 //! Whole reads and whole writes.
 ghost use Rattle.std.specs.Prelude.{◌≡◌, ◌+◌, ◌-◌, ◌<◌, ◌≤◌, length, IfOk, OnOk, OnErr, IsErrOf, vec_len, alloc_error};
 ghost use Rattle.modem_ports.specs.Counts.{Rose};
+ghost use Rattle.modem_ports.specs.Limits.{most_input};
 ghost use Rattle.modem_ports.specs.Told.{Gives, GivesAtMost, GivesExactly, GivesBehind, IsAtEnd, Takes, TakesPrefix};
 ghost use Rattle.modem_ports.specs.declared.whole.ReadAllFault.TheVariants.{NoMemory};
 
@@ -30,10 +31,13 @@ impl From<AllocError> for ReadAllFault {
     }
 }
 
+/// The most bytes of an input: those of 2^24 samples (own).
+pub const MOST_INPUT: usize = 67_108_864;
+
 /// The most bytes that are asked of a source at once.
 const PIECE: usize = 4096;
 
-/// Reads a source to the end of its input, of at most `limit` bytes (own). `limit` is at most 67108864.
+/// Reads a source to the end of its input, of at most `limit` bytes (own). `limit` is at most [`MOST_INPUT`].
 ///
 /// `Ok` has exactly the told bytes that were left, and none are left afterwards. `Long` comes exactly where byte
 /// `limit + 1` was taken, and no more bytes are ever taken. `Failed` comes only where the source's count of faults
@@ -43,7 +47,7 @@ pub fn read_all<S: Source>(
     source: &mut S,
     limit: usize,
 ) -> Result<Vec<u8>, ReadAllFault>
-    requires { limit ≤ 67108864 }
+    requires { limit ≤ most_input }
     ensures whole { IfOk result (λ bytes. Gives (S.left source.old) bytes.items (S.left source.new)) }
     ensures end { IfOk result (λ _. IsAtEnd (S.left source.new)) }
     ensures within { IfOk result (λ bytes. length bytes.items ≤ limit) }
@@ -73,7 +77,7 @@ fn read_piece<S: Source>(
     bytes: &mut Vec<u8>,
     limit: usize,
 ) -> Result<usize, ReadAllFault>
-    requires limit_in { limit ≤ 67108864 }
+    requires limit_in { limit ≤ most_input }
     requires short { vec_len bytes.old ≤ limit }
     ensures given { OnOk result
         (GivesBehind (S.left source.old) bytes.old.items (S.left source.new) bytes.new.items) }
