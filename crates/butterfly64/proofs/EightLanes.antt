@@ -1,6 +1,6 @@
 -- The stages within eight lanes.
 use Rattle.std.proofs.Common.{◌≡◌, ℕ, zero, suc, ◌+◌, ◌-◌, ◌*◌, ◌/◌, ◌%◌, ◌^◌, ◌<◌, ◌≤◌, true, false, cond, ltb, [], get_or, refl, ◌∙◌, arith}
-use Rattle.std.proofs.lemmas.Bool.{ltb-true}
+use Rattle.std.proofs.lemmas.Bool.{ltb-true, agree_below_at, agree_below}
 use Rattle.fixed_complex.specs.declared.Cx.{Cx}
 use Rattle.fixed_complex.specs.Pairs.{IsOfSize, plus, minus, conjugate, scaled_product}
 use Rattle.fixed_complex.specs.Turns.{turn_at}
@@ -8,7 +8,7 @@ use Rattle.butterfly64.specs.declared.lanes.Eight.{Eight}
 use Rattle.butterfly64.specs.StagedSums.{stage_turn, up_at, down_at}
 use Rattle.butterfly64.specs.MirrorOrder.{mirror_of}
 use Rattle.butterfly64.specs.Lanes.{lane, low_place, is_low, joined_at, parted_at, EachOfSize}
-use Rattle.butterfly64.proofs.ByPlace.{passes_below, passes_at, same_pair, pair_is_same}
+use Rattle.fixed_complex.proofs.ByTable.{same_pairs, are_same}
 use Rattle.butterfly64.specs.declared.lane_turns.TheConstants.{TURNS}
 use Rattle.butterfly64.proofs.Sizes.{wider, size-plus, size-minus, size-conjugate, size-scaled_product}
 use Rattle.butterfly64.proofs.TurnSizes.{turn-size}
@@ -26,7 +26,7 @@ parted_of_parts k l x low high turn sum difference mixed low_is high_is turn_is 
 -- ---- three stages
 -- the two places of a lane are lanes
 places_within : (k : ℕ) → k < 3 → (l : ℕ) → l < 8 → low_place k l + 2 ^ k < 8
-places_within k k_below l l_below = ltb-true _ _ (passes_at (λ l. ltb (low_place k l + 2 ^ k) 8) 8 (passes_at (λ k. passes_below (λ l. ltb (low_place k l + 2 ^ k) 8) 8) 3 refl k k_below) l l_below)
+places_within k k_below l l_below = ltb-true _ _ (agree_below_at (λ l. ltb (low_place k l + 2 ^ k) 8) (λ _. true) 8 l (agree_below_at (λ k. agree_below (λ l. ltb (low_place k l + 2 ^ k) 8) (λ _. true) 8) (λ _. true) 3 k refl k_below) l_below)
 
 -- a stage reads no other lane
 joined_at-local : (k : ℕ) → k < 3 → (x y : ℕ → Cx) → ((l : ℕ) → l < 8 → x l ≡ y l) → (l : ℕ) → l < 8 → joined_at k x l ≡ joined_at k y l
@@ -117,8 +117,7 @@ no_pairs = record { re = []; im = [] }
 pub turns_within_eight : (k : ℕ) → k < 3 → (l : ℕ) → l < 8 → lane (get_or TURNS k no_pairs) l ≡ stage_turn k (l % 2 ^ k)
 unfolding turn_at
 turns_within_eight k k_below l l_below =
-    pair_is_same _ _ (passes_at (λ l. same_pair (lane (get_or TURNS k no_pairs) l) (stage_turn k (l % 2 ^ k))) 8
-    (passes_at (λ k. passes_below (λ l. same_pair (lane (get_or TURNS k no_pairs) l) (stage_turn k (l % 2 ^ k))) 8) 3 refl k k_below) l l_below)
+    are_same _ _ (agree_below_at (λ l. same_pairs (lane (get_or TURNS k no_pairs) l) (stage_turn k (l % 2 ^ k))) (λ _. true) 8 l (agree_below_at (λ k. agree_below (λ l. same_pairs (lane (get_or TURNS k no_pairs) l) (stage_turn k (l % 2 ^ k))) (λ _. true) 8) (λ _. true) 3 k refl k_below) l_below)
 
 -- sizes after a stage
 pub after_join : (k s : ℕ) (x y : Eight) → k < 3 → 4 ≤ s → ((l : ℕ) → l < 8 → IsOfSize s (lane x l)) → ((l : ℕ) → l < 8 → lane y l ≡ joined_at k (lane x) l) → (l : ℕ) → l < 8 → IsOfSize (s * 3) (lane y l)

@@ -7,8 +7,8 @@ use Rattle.fixed_complex.specs.Pairs.{plus, minus, scaled_product}
 use Rattle.butterfly64.specs.StagedSums.{stage_turn, joined, up_at, half_sums, turned_differences, down_at}
 
 -- two lists of pairs with the same pair at each place
-pub same_pairs : (x y : ℕ → Cx) → ((m : ℕ) → x m ≡ y m) → x ≡ y
-same_pairs x y h = λ i m. h m i
+pub same_functions : (x y : ℕ → Cx) → ((m : ℕ) → x m ≡ y m) → x ≡ y
+same_functions x y h = λ i m. h m i
 
 -- ---- a join
 -- in its first half

@@ -1,20 +1,18 @@
 -- Staged sums in place, in mirror order, by halves of a list.
-use Rattle.std.proofs.Common.{◌≡◌, ℕ, zero, suc, ◌+◌, ◌-◌, ◌*◌, ◌/◌, ◌%◌, ◌^◌, ◌<◌, ◌≤◌, List, ◌++◌, length, refl, ap, sym, ◌∙◌, arith, inl, inr, eqb, leb}
-use Rattle.std.proofs.lemmas.Bool.{cases_lt, cases_eq, eqb-true, leb-true}
+use Rattle.std.proofs.Common.{◌≡◌, ℕ, zero, suc, ◌+◌, ◌-◌, ◌*◌, ◌/◌, ◌%◌, ◌^◌, ◌<◌, ◌≤◌, List, ◌++◌, length, refl, ap, sym, ◌∙◌, arith, inl, inr, eqb, leb, length-append, true}
+use Rattle.std.proofs.lemmas.Bool.{cases_lt, cases_eq, eqb-true, leb-true, agree_below_at}
 use Rattle.std.proofs.lemmas.List.{get_or_append_left, get_or-append_right}
-use Rattle.std.proofs.Common.{length-append}
 use Rattle.std.proofs.Math.Nat.{pow-suc}
 use Rattle.fixed_complex.specs.declared.Cx.{Cx}
 use Rattle.fixed_complex.specs.Pairs.{zero_pair, plus, minus, conjugate, scaled_product}
 use Rattle.butterfly64.specs.StagedSums.{entry, stage_turn, up_at, half_sums, turned_differences, down_at, up_sums, down_sums}
 use Rattle.butterfly64.specs.MirrorOrder.{mirror_of}
 use Rattle.butterfly64.specs.Bounds.{AreOfSize}
-use Rattle.butterfly64.proofs.ByPlace.{passes_at}
 use Rattle.butterfly64.proofs.Sizes.{wider, size-plus, size-minus, size-conjugate, size-scaled_product}
 use Rattle.butterfly64.proofs.TurnSizes.{turn-size}
 use Rattle.butterfly64.proofs.StagedSizes.{grown_by, size-up_at}
 use Rattle.butterfly64.proofs.Mirrors.{mirror_of-even, mirror_of-odd, mirror_of-below, mirror_of-undone}
-use Rattle.butterfly64.proofs.Halves.{same_pairs, joined-first, joined-last, up_at-local, down_at-local, down_at-even, down_at-odd}
+use Rattle.butterfly64.proofs.Halves.{same_functions, joined-first, joined-last, up_at-local, down_at-local, down_at-even, down_at-odd}
 use Rattle.butterfly64.proofs.SumSizes.{is_by_place}
 
 -- the entries of a list's first and of its last half
@@ -40,12 +38,12 @@ pub record IsDown (k : ℕ) (xs sums : List Cx) : Type 0 where
 
 -- even places are those of the first half
 mirrored-even : (k : ℕ) (xs ys : List Cx) → length xs ≡ 2 ^ k → (λ m. mirrored (suc k) (xs ++ ys) (2 * m)) ≡ mirrored k xs
-mirrored-even k xs ys long = same_pairs _ _ (λ m.
+mirrored-even k xs ys long = same_functions _ _ (λ m.
     ap (entry (xs ++ ys)) (mirror_of-even k m) ∙ entry-first xs ys (mirror_of k m) (omega (arith, mirror_of-below k m)))
 
 -- odd ones are those of the last
 mirrored-odd : (k : ℕ) (xs ys : List Cx) → length xs ≡ 2 ^ k → (λ m. mirrored (suc k) (xs ++ ys) (2 * m + 1)) ≡ mirrored k ys
-mirrored-odd k xs ys long = same_pairs _ _ (λ m.
+mirrored-odd k xs ys long = same_functions _ _ (λ m.
     ap (entry (xs ++ ys)) (mirror_of-odd k m) ∙ entry-last xs ys (2 ^ k) (mirror_of k m) long)
 
 -- what a join of two halves does
@@ -99,17 +97,17 @@ down_of_halves k xs ys first last ss ds long ss_long part left right = record {
 -- ---- steps and bounds at each of the six levels
 -- the turns of a level stand so far apart
 pub step_of_level : (k : ℕ) → k < 6 → 32 / 2 ^ k ≡ 2 ^ (5 - k)
-step_of_level k h = eqb-true _ _ (passes_at (λ i. eqb (32 / 2 ^ i) (2 ^ (5 - i))) 6 refl k h)
+step_of_level k h = eqb-true _ _ (agree_below_at (λ i. eqb (32 / 2 ^ i) (2 ^ (5 - i))) (λ _. true) 6 k refl h)
 
 -- no sum within a list is larger than 2^39
 grown_within : (k : ℕ) → k < 6 → grown_by k (2 ^ 31) ≤ 2 ^ 39
-grown_within k h = leb-true _ _ (passes_at (λ i. leb (grown_by i (2 ^ 31)) (2 ^ 39)) 6 refl k h)
+grown_within k h = leb-true _ _ (agree_below_at (λ i. leb (grown_by i (2 ^ 31)) (2 ^ 39)) (λ _. true) 6 k refl h)
 
 -- the bounds of the parts of `down`
 pub parted_within : (level : ℕ) → 0 < level → 2 ^ 31 * 3 ^ (6 - level) ≤ 2 ^ 39
 parted_within level h =
     let within : 6 - level < 6 = omega arith in
-    leb-true _ _ (passes_at (λ i. leb (2 ^ 31 * 3 ^ i) (2 ^ 39)) 6 refl (6 - level) within)
+    leb-true _ _ (agree_below_at (λ i. leb (2 ^ 31 * 3 ^ i) (2 ^ 39)) (λ _. true) 6 (6 - level) refl within)
 
 -- ---- sizes of halves
 pub sizes-first : (s : ℕ) (xs ys : List Cx) → AreOfSize s (xs ++ ys) → AreOfSize s xs

@@ -4,8 +4,7 @@ use Rattle.std.specs.Prelude.{ℤ, pos, negsuc, neg_ℤ, ◌+ℤ◌, ◌-ℤ◌,
 use Rattle.std.specs.Simd.Lanes.{zip2, Each2}
 use Rattle.std.proofs.lemmas.Int.{ints, to_z-of_z, fits_signed_from_abs}
 use Rattle.std.proofs.lemmas.List.{get_or-map, length-map, map-append, get_or_append_left, get_or-append_right}
-use Rattle.std.proofs.lemmas.Bool.{cases_lt, eqb-true, ltb-true}
-use Rattle.butterfly64.proofs.ByPlace.{passes_below, passes_at, both_of}
+use Rattle.std.proofs.lemmas.Bool.{cases_lt, eqb-true, ltb-true, agree_below_at, agree_below, and_parts}
 use Rattle.std.proofs.lemmas.Simd.{get_or-zip2, length-zip2, get_or-replicate}
 use borrow.Rule.Simd.Lanes.{Asks2, act2}
 use borrow.Table.Row.{s_int}
@@ -155,19 +154,19 @@ picked ks xs ys ks_long xs_long ys_long xs_within ys_within l k h place below =
     ])
 
 -- those of one
-pub picked_of_one : (ks : List ℕ) (xs : List ℤ) (place : ℕ → ℕ) → length ks ≡ 8 → length xs ≡ 8 → LanesWithin (2 ^ 62 - 1) xs → passes_below (λ l. eqb (get_or ks l 0) (place l) && ltb (place l) 8) 8 ≡ true
+pub picked_of_one : (ks : List ℕ) (xs : List ℤ) (place : ℕ → ℕ) → length ks ≡ 8 → length xs ≡ 8 → LanesWithin (2 ^ 62 - 1) xs → agree_below (λ l. eqb (get_or ks l 0) (place l) && ltb (place l) 8) (λ _. true) 8 ≡ true
     → (l : ℕ) → l < 8 → number (map (λ k. to_z w64 (get_or (map bits xs ++ map bits xs) k 0)) ks) l ≡ number xs (place l)
 picked_of_one ks xs place ks_long xs_long within test l h =
-    let both = both_of _ _ (passes_at (λ l. eqb (get_or ks l 0) (place l) && ltb (place l) 8) 8 test l h) in
+    let both = and_parts _ _ (agree_below_at (λ l. eqb (get_or ks l 0) (place l) && ltb (place l) 8) (λ _. true) 8 l test h) in
     let below : place l < 8 = ltb-true (place l) 8 both.1 in
     picked ks xs xs ks_long xs_long xs_long within within l (place l) h (eqb-true (get_or ks l 0) (place l) both.0) (omega (arith, below))
     ∙ get_or_append_left xs xs (pos 0) (place l) (omega (arith, below))
 
 -- each lane of the one or of the other
-pub picked_of_two : (ks : List ℕ) (xs ys : List ℤ) (first : ℕ → Bool) → length ks ≡ 8 → length xs ≡ 8 → length ys ≡ 8 → LanesWithin (2 ^ 62 - 1) xs → LanesWithin (2 ^ 62 - 1) ys → passes_below (λ l. eqb (get_or ks l 0) (cond (first l) l (8 + l))) 8 ≡ true
+pub picked_of_two : (ks : List ℕ) (xs ys : List ℤ) (first : ℕ → Bool) → length ks ≡ 8 → length xs ≡ 8 → length ys ≡ 8 → LanesWithin (2 ^ 62 - 1) xs → LanesWithin (2 ^ 62 - 1) ys → agree_below (λ l. eqb (get_or ks l 0) (cond (first l) l (8 + l))) (λ _. true) 8 ≡ true
     → (l : ℕ) → l < 8 → number (map (λ k. to_z w64 (get_or (map bits xs ++ map bits ys) k 0)) ks) l ≡ cond (first l) (number xs l) (number ys l)
 picked_of_two ks xs ys first ks_long xs_long ys_long xs_within ys_within test l h =
-    go (first l) (eqb-true (get_or ks l 0) (cond (first l) l (8 + l)) (passes_at (λ l. eqb (get_or ks l 0) (cond (first l) l (8 + l))) 8 test l h))
+    go (first l) (eqb-true (get_or ks l 0) (cond (first l) l (8 + l)) (agree_below_at (λ l. eqb (get_or ks l 0) (cond (first l) l (8 + l))) (λ _. true) 8 l test h))
   where
     go : (b : Bool) → get_or ks l 0 ≡ cond b l (8 + l) → number (map (λ k. to_z w64 (get_or (map bits xs ++ map bits ys) k 0)) ks) l ≡ cond b (number xs l) (number ys l)
     go true place = picked ks xs ys ks_long xs_long ys_long xs_within ys_within l l h place (omega arith) ∙ get_or_append_left xs ys (pos 0) l (omega arith)

@@ -1,7 +1,6 @@
 -- The places of mirror order.
-use Rattle.std.proofs.Common.{◌≡◌, ℕ, zero, suc, ◌+◌, ◌*◌, ◌/◌, ◌%◌, ◌^◌, ◌<◌, arith, refl, eqb}
-use Rattle.std.proofs.lemmas.Bool.{eqb-true}
-use Rattle.butterfly64.proofs.ByPlace.{passes_at}
+use Rattle.std.proofs.Common.{◌≡◌, ℕ, zero, suc, ◌+◌, ◌*◌, ◌/◌, ◌%◌, ◌^◌, ◌<◌, arith, refl, eqb, true}
+use Rattle.std.proofs.lemmas.Bool.{eqb-true, agree_below_at}
 use Rattle.std.proofs.Math.Nat.{pow-suc}
 use Rattle.butterfly64.specs.MirrorOrder.{mirror_of}
 
@@ -36,4 +35,4 @@ mirror_of-below (suc k) n = omega (arith, pow-suc 2 k, one_more (n % 2) (2 ^ k) 
 -- of 64 places, each is the mirrored place of its mirrored place
 pub mirror_of-undone : (n : ℕ) → n < 64 → mirror_of 6 (mirror_of 6 n) ≡ n
 unfolding mirror_of
-mirror_of-undone n h = eqb-true _ _ (passes_at (λ m. eqb (mirror_of 6 (mirror_of 6 m)) m) 64 refl n h)
+mirror_of-undone n h = eqb-true _ _ (agree_below_at (λ m. eqb (mirror_of 6 (mirror_of 6 m)) m) (λ _. true) 64 n refl h)

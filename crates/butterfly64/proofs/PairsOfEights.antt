@@ -1,7 +1,7 @@
 -- The pairs of a list of eights, and the stages over them.
-use Rattle.std.proofs.Common.{◌≡◌, ℕ, zero, suc, ◌+◌, ◌-◌, ◌*◌, ◌/◌, ◌%◌, ◌^◌, ◌<◌, ◌≤◌, List, [], ◌∷◌, ◌++◌, length, map, set, refl, ap, sym, ◌∙◌, arith, length-append, append_assoc, leb}
+use Rattle.std.proofs.Common.{◌≡◌, ℕ, zero, suc, ◌+◌, ◌-◌, ◌*◌, ◌/◌, ◌%◌, ◌^◌, ◌<◌, ◌≤◌, List, [], ◌∷◌, ◌++◌, length, map, set, refl, ap, sym, ◌∙◌, arith, length-append, append_assoc, leb, true}
 use Rattle.std.specs.List.{range_with_len}
-use Rattle.std.proofs.lemmas.Bool.{leb-true}
+use Rattle.std.proofs.lemmas.Bool.{leb-true, agree_below_at, agree_below}
 use Rattle.std.proofs.lemmas.List.{get_or_append_left, get_or-append_right, get_or-set_same, length-set, ext_get_or}
 use Rattle.std.proofs.lemmas.List.FromFn.{get_or-map-range_with_len, length-map-range_with_len}
 use Rattle.std.proofs.Math.Nat.{pow-suc}
@@ -14,10 +14,10 @@ use Rattle.butterfly64.specs.Bounds.{AreOfSize}
 use Rattle.butterfly64.specs.StagedSums.{entry, stage_turn, up_at, down_at}
 use Rattle.butterfly64.specs.MirrorOrder.{mirror_of}
 use Rattle.butterfly64.specs.Lanes.{lane, eight_in, pairs_of, EachWithin, EachOfSize}
-use Rattle.butterfly64.proofs.ByPlace.{passes_below, passes_at, same_pair, pair_is_same}
+use Rattle.fixed_complex.proofs.ByTable.{same_pairs, are_same}
 use Rattle.butterfly64.proofs.Sizes.{within-size, within_wider}
 use Rattle.butterfly64.proofs.Mirrors.{mirror_of-below}
-use Rattle.butterfly64.proofs.Halves.{same_pairs, down_at-local}
+use Rattle.butterfly64.proofs.Halves.{same_functions, down_at-local}
 use Rattle.butterfly64.proofs.InPlace.{mirrored, IsUp, IsDown, IsJoin, IsPart}
 
 pub length-pairs_of : (xs : List Eight) → length (pairs_of xs) ≡ 8 * length xs
@@ -61,8 +61,7 @@ lanes_within xs c bound h below sizes = record { each = λ l lt. within_wider (2
 turns_of_eights : (k : ℕ) → k < 3 → (j : ℕ) → j < 2 ^ (k + 3) → lane (eight_in TURNS (2 ^ k + 2 + j / 8)) (j % 8) ≡ stage_turn (k + 3) j
 unfolding turn_at
 turns_of_eights k k_below j j_below =
-    pair_is_same _ _ (passes_at (λ j. same_pair (lane (eight_in TURNS (2 ^ k + 2 + j / 8)) (j % 8)) (stage_turn (k + 3) j)) (2 ^ (k + 3))
-    (passes_at (λ k. passes_below (λ j. same_pair (lane (eight_in TURNS (2 ^ k + 2 + j / 8)) (j % 8)) (stage_turn (k + 3) j)) (2 ^ (k + 3))) 3 refl k k_below) j j_below)
+    are_same _ _ (agree_below_at (λ j. same_pairs (lane (eight_in TURNS (2 ^ k + 2 + j / 8)) (j % 8)) (stage_turn (k + 3) j)) (λ _. true) (2 ^ (k + 3)) j (agree_below_at (λ k. agree_below (λ j. same_pairs (lane (eight_in TURNS (2 ^ k + 2 + j / 8)) (j % 8)) (stage_turn (k + 3) j)) (λ _. true) (2 ^ (k + 3))) (λ _. true) 3 k refl k_below) j_below)
 
 -- eight times as many pairs as eights
 pub eight_times : (k : ℕ) → 2 ^ (k + 3) ≡ 8 * 2 ^ k
@@ -111,7 +110,7 @@ up_of_one_eight xs y long h = record {
   each = λ n lt.
       let replaced = get_or-set_same xs 0 y (record { re = []; im = [] }) (omega arith) in
       let place : 8 * 0 + n ≡ n = omega arith in
-      let pairs : (λ m. lane (eight_in xs 0) (mirror_of 3 m)) ≡ mirrored 3 (pairs_of xs) = same_pairs _ _ (λ m.
+      let pairs : (λ m. lane (eight_in xs 0) (mirror_of 3 m)) ≡ mirrored 3 (pairs_of xs) = same_functions _ _ (λ m.
       sym (ap (entry (pairs_of xs)) (let e : mirror_of 3 m ≡ 8 * 0 + mirror_of 3 m = omega arith in e) ∙ entry-pairs_of xs 0 (mirror_of 3 m) (omega arith) (mirror_of-below 3 m))) in
       ap (entry (pairs_of (set xs 0 y))) (sym place)
       ∙ entry-pairs_of (set xs 0 y) 0 n (omega (arith, length-set xs 0 y)) lt
@@ -141,12 +140,12 @@ is_pairs_of xs ys xs_long ys_long h =
 
 -- ---- bounds at each level
 pub most_of_level : (level : ℕ) → level ≤ 3 → 2 ^ (level - 1) ≤ 4
-most_of_level level h = leb-true _ _ (passes_at (λ i. leb (2 ^ (i - 1)) 4) 4 refl level (omega arith))
+most_of_level level h = leb-true _ _ (agree_below_at (λ i. leb (2 ^ (i - 1)) 4) (λ _. true) 4 level refl (omega arith))
 
 pub parts_within : (level : ℕ) → 2 ^ 31 * 3 ^ (3 - level) ≤ 2 ^ 39
 parts_within level =
     let within : 3 - level < 4 = omega arith in
-    leb-true _ _ (passes_at (λ i. leb (2 ^ 31 * 3 ^ i) (2 ^ 39)) 4 refl (3 - level) within)
+    leb-true _ _ (agree_below_at (λ i. leb (2 ^ 31 * 3 ^ i) (2 ^ 39)) (λ _. true) 4 (3 - level) refl within)
 
 pub next_level : (level : ℕ) → 0 < level → level ≤ 3 → 2 ^ 31 * 3 ^ (3 - (level - 1)) ≡ 2 ^ 31 * 3 ^ (3 - level) * 3
 next_level level h g =
@@ -156,4 +155,4 @@ next_level level h g =
 pub parts_above : (level : ℕ) → 4 ≤ 2 ^ 31 * 3 ^ (3 - level)
 parts_above level =
     let within : 3 - level < 4 = omega arith in
-    leb-true _ _ (passes_at (λ i. leb 4 (2 ^ 31 * 3 ^ i)) 4 refl (3 - level) within)
+    leb-true _ _ (agree_below_at (λ i. leb 4 (2 ^ 31 * 3 ^ i)) (λ _. true) 4 (3 - level) refl within)

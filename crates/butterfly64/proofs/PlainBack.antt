@@ -1,7 +1,7 @@
 -- The plain sum of a plain sum gives the carriers back.
-use Rattle.std.proofs.Common.{◌≡◌, ◌≢◌, ℕ, zero, suc, ◌+◌, ◌*◌, ◌%◌, ◌^◌, ◌<◌, ◌≤◌, refl, ap, sym, subst, ◌∙◌, arith, inl, inr}
+use Rattle.std.proofs.Common.{◌≡◌, ◌≢◌, ℕ, zero, suc, ◌+◌, ◌*◌, ◌%◌, ◌^◌, ◌<◌, ◌≤◌, refl, ap, sym, subst, ◌∙◌, arith, inl, inr, true}
 use Rattle.std.specs.Prelude.{ℤ, pos, ◌+ℤ◌, ◌-ℤ◌, ◌*ℤ◌}
-use Rattle.std.proofs.lemmas.Bool.{cases_eq, leb-true}
+use Rattle.std.proofs.lemmas.Bool.{cases_eq, leb-true, agree_below_at}
 use Rattle.fixed_complex.specs.declared.Cx.{Cx}
 use Rattle.fixed_complex.specs.Laws.{sum_below}
 use Rattle.fixed_complex.specs.Pairs.{IsWithin, IsOfSize, zero_pair, plus, minus, multiple, conjugate, times}
@@ -9,7 +9,7 @@ use Rattle.fixed_complex.specs.Turns.{turn_at}
 use Rattle.integer_laws.proofs.Ring.{ring, number, ◌⊕◌, ◌⊖◌, ◌⊗◌, ◌≗◌}
 use Rattle.integer_laws.proofs.Sizes.{size_of_parts}
 use Rattle.butterfly64.specs.PlainSums.{plain_up, plain_down}
-use Rattle.butterfly64.proofs.ByPlace.{passes_at, same_pair, pair_is_same}
+use Rattle.fixed_complex.proofs.ByTable.{same_pairs, are_same}
 use Rattle.butterfly64.proofs.Sizes.{within_wider, within-size, size-times}
 use Rattle.butterfly64.proofs.TurnSizes.{same_turn}
 use Rattle.butterfly64.proofs.PlainSumLaws.{pair_of, same_sums, times_sum, multiple_sum, minus_sums, plus_sums, times_zero, multiple_zero, size-sum}
@@ -97,7 +97,7 @@ unfolding turn_at
 turn_back m =
     let place : (63 * m) % 64 ≡ (63 * (m % 64)) % 64 = omega arith in
     ap conjugate (same_turn m)
-    ∙ pair_is_same _ _ (passes_at (λ k. same_pair (conjugate (turn_at k)) (turn_at ((63 * k) % 64))) 64 refl (m % 64) (omega arith))
+    ∙ are_same _ _ (agree_below_at (λ k. same_pairs (conjugate (turn_at k)) (turn_at ((63 * k) % 64))) (λ _. true) 64 (m % 64) refl (omega arith))
     ∙ ap turn_at (sym place) ∙ sym (same_turn (63 * m))
 
 sum_of_ones : sum_below 64 (λ n. turn_at 0) ≡ record { re = pos 67108864; im = pos 0 }

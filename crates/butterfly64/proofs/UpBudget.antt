@@ -1,7 +1,7 @@
 -- How near the staged sums `up` are to the plain ones, join by join.
-use Rattle.std.proofs.Common.{◌≡◌, ℕ, zero, suc, ◌+◌, ◌-◌, ◌*◌, ◌/◌, ◌^◌, ◌<◌, ◌≤◌, refl, ap, sym, ◌∙◌, arith, eqb, inl, inr}
+use Rattle.std.proofs.Common.{◌≡◌, ℕ, zero, suc, ◌+◌, ◌-◌, ◌*◌, ◌/◌, ◌^◌, ◌<◌, ◌≤◌, refl, ap, sym, ◌∙◌, arith, eqb, inl, inr, true}
 use Rattle.std.specs.Prelude.{ℤ, pos, negsuc, ◌+ℤ◌, ◌-ℤ◌, ◌*ℤ◌}
-use Rattle.std.proofs.lemmas.Bool.{cases_lt, eqb-true}
+use Rattle.std.proofs.lemmas.Bool.{cases_lt, eqb-true, agree_below_at}
 use Rattle.std.proofs.Math.Nat.{pow-suc}
 use Rattle.fixed_complex.specs.declared.Cx.{Cx}
 use Rattle.fixed_complex.specs.Laws.{sum_below}
@@ -13,7 +13,6 @@ use Rattle.integer_laws.proofs.Order.{pos-le}
 use Rattle.butterfly64.specs.Budgets.{budget_of}
 use Rattle.butterfly64.specs.PlainSums.{plain_up}
 use Rattle.butterfly64.specs.StagedSums.{stage_turn, up_at}
-use Rattle.butterfly64.proofs.ByPlace.{passes_at}
 use Rattle.butterfly64.proofs.Sizes.{wider, size-plus, size-minus, size-times}
 use Rattle.butterfly64.proofs.TurnSizes.{turn-size}
 use Rattle.butterfly64.proofs.Halves.{joined-first, joined-last}
@@ -107,7 +106,7 @@ pub double_step : (k : ℕ) → k < 6 → 2 ^ (6 - k) ≡ 2 * 2 ^ (5 - k)
 double_step k h = let e : 6 - k ≡ suc (5 - k) = omega arith in rw (e, pow-suc 2 (5 - k)) (omega arith)
 
 pub half_turn : (k : ℕ) → k < 6 → 2 ^ (5 - k) * 2 ^ k ≡ 32
-half_turn k h = eqb-true _ _ (passes_at (λ i. eqb (2 ^ (5 - i) * 2 ^ i) 32) 6 refl k h)
+half_turn k h = eqb-true _ _ (agree_below_at (λ i. eqb (2 ^ (5 - i) * 2 ^ i) 32) (λ _. true) 6 k refl h)
 
 halves : (k : ℕ) (x : ℕ → Cx) (n : ℕ) → k < 6 → plain_at (suc k) x n ≡ plus (sum_below (2 ^ k) (λ m. times (x (2 * m)) (turn_at (2 ^ (5 - k) * (2 * m * n))))) (sum_below (2 ^ k) (λ m. times (x (2 * m + 1)) (turn_at (2 ^ (5 - k) * ((2 * m + 1) * n)))))
 halves k x n h =

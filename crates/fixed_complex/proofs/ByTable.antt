@@ -1,26 +1,10 @@
 -- What holds of each of the 64 places of a turn, shown by computing a test there.
 use Rattle.std.proofs.Common.{◌≡◌, ℕ, zero, suc, ◌*◌, ◌<◌, Bool, true, false, ◌&&◌, nat_eq, nat_le, ℤ, pos, negsuc, ◌+ℤ◌, ◌*ℤ◌, ◌≤ℤ◌, int_le, unsigned_abs, ap, refl, arith, inl, inr}
-use Rattle.std.proofs.lemmas.Bool.{cases_eq, eqb-true, leb-true}
+use Rattle.std.proofs.lemmas.Bool.{and_parts, eqb-true, leb-true}
 use Rattle.std.proofs.lemmas.Int.{ints}
 use Rattle.fixed_complex.specs.declared.Cx.{Cx}
 use Rattle.fixed_complex.specs.Pairs.{IsOfSize, IsWithin}
 use Rattle.fixed_complex.proofs.Parts.{same_pair}
-
--- a test passes at each place below n
-unfoldable pub passes_below : (ℕ → Bool) → ℕ → Bool
-passes_below p zero = true
-passes_below p (suc n) = p n && passes_below p n
-
-both_of : (x rest : Bool) → (x && rest) ≡ true → (x ≡ true) × (rest ≡ true)
-both_of true rest h = (refl, h)
-both_of false rest h = cc
-
-pub passes_at : (p : ℕ → Bool) (n : ℕ) → passes_below p n ≡ true → (k : ℕ) → k < n → p k ≡ true
-unfolding passes_below
-passes_at p zero h k lt = absurd (omega arith)
-passes_at p (suc n) h k lt =
-    let both = both_of (p n) (passes_below p n) h in
-    elim (cases_eq k n) [ inl same ↦ rw same both.0 | inr other ↦ passes_at p n both.1 k (omega arith) ]
 
 -- two whole numbers are the same
 abbrev pub same_number : ℤ → ℤ → Bool
@@ -41,7 +25,7 @@ same_pairs a b = same_number a.re b.re && same_number a.im b.im
 
 pub are_same : (a b : Cx) → same_pairs a b ≡ true → a ≡ b
 are_same a b h =
-    let both = both_of (same_number a.re b.re) (same_number a.im b.im) h in
+    let both = and_parts (same_number a.re b.re) (same_number a.im b.im) h in
     same_pair (is_same a.re b.re both.0) (is_same a.im b.im both.1)
 
 -- a pair has components, or a size, of at most a bound
@@ -50,13 +34,13 @@ within_test bound a = nat_le (unsigned_abs a.re) bound && nat_le (unsigned_abs a
 
 pub is_within : (bound : ℕ) (a : Cx) → within_test bound a ≡ true → IsWithin bound a
 is_within bound a h =
-    let both = both_of (nat_le (unsigned_abs a.re) bound) (nat_le (unsigned_abs a.im) bound) h in
+    let both = and_parts (nat_le (unsigned_abs a.re) bound) (nat_le (unsigned_abs a.im) bound) h in
     record { re = leb-true (unsigned_abs a.re) bound both.0; im = leb-true (unsigned_abs a.im) bound both.1 }
 
 abbrev pub size_test : ℕ → Cx → Bool
 size_test bound a = int_le (a.re *ℤ a.re +ℤ a.im *ℤ a.im) (pos (bound * bound))
 
-at_most : (x y : ℤ) → int_le x y ≡ true → x ≤ℤ y
+pub at_most : (x y : ℤ) → int_le x y ≡ true → x ≤ℤ y
 at_most x y h = grind (arith, ints)
 
 pub is_of_size : (bound : ℕ) (a : Cx) → size_test bound a ≡ true → IsOfSize bound a

@@ -1,3 +1,3 @@
-mod ByTable
+pub mod ByTable
 mod Parts
 mod Turning

@@ -2,6 +2,7 @@
 -- by component, where the normal forms of both components are the same.
 use Rattle.std.proofs.Common.{◌≡◌, ℕ, zero, suc, ◌*◌, Bool, true, false, ◌&&◌, List, [], ◌∷◌, refl}
 use Rattle.std.specs.Prelude.{ℤ}
+use Rattle.std.proofs.lemmas.Bool.{and_parts}
 use Rattle.integer_laws.proofs.Ring.{Expr, variable, number, negated, ◌⊕◌, ◌⊖◌, ◌⊗◌, value, same, same_value}
 
 -- a pair of expressions
@@ -54,13 +55,9 @@ abbrev pub PairHolds : (n : ℕ) → PairLaw n → List ℤ → Type 0
 PairHolds zero (a ≑ b) xs = (value xs a.re ≡ value xs b.re) × (value xs a.im ≡ value xs b.im)
 PairHolds (suc n) law xs = (re im : ℤ) → PairHolds n (law (pair_variable n)) (im ∷ re ∷ xs)
 
-both : (a b : Bool) → (a && b) ≡ true → (a ≡ true) × (b ≡ true)
-both true b e = (refl, e)
-both false b e = absurd (cc)
-
 pair_holds : (n : ℕ) (law : PairLaw n) (xs : List ℤ) → is_pair_law n law ≡ true → PairHolds n law xs
 pair_holds zero (a ≑ b) xs h =
-    let parts = both (same a.re b.re) (same a.im b.im) h in
+    let parts = and_parts (same a.re b.re) (same a.im b.im) h in
     (same_value xs a.re b.re parts.0, same_value xs a.im b.im parts.1)
 pair_holds (suc n) law xs h = λ re im. pair_holds n (law (pair_variable n)) (im ∷ re ∷ xs) h
 

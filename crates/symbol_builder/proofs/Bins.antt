@@ -1,9 +1,8 @@
 -- Where the data numbers of a symbol stand.
 use Rattle.std.proofs.Common.{◌≡◌, ◌≢◌, ℕ, ◌+◌, ◌<◌, Bool, true, nat_lt, eqb, List, slice_index_or, if◌then◌else◌, refl, ap, sym, ◌∙◌, arith, inl, inr}
-use Rattle.std.proofs.lemmas.Bool.{cases_lt, eqb-true, lt-ltb, le-ltb}
+use Rattle.std.proofs.lemmas.Bool.{cases_lt, eqb-true, lt-ltb, le-ltb, agree_below_at}
 use Rattle.fixed_complex.specs.declared.Cx.{Cx}
 use Rattle.fixed_complex.specs.Pairs.{zero_pair}
-use Rattle.butterfly64.proofs.ByPlace.{passes_at}
 use Rattle.constellations.specs.Carriers.{bin_of, data_carrier_of}
 use Rattle.training_fields.specs.Bins.{carrier_in}
 use Rattle.symbol_builder.specs.Carriers.{data_number_in, pilot_at, symbol_bin}
@@ -11,7 +10,7 @@ use Rattle.symbol_builder.specs.Carriers.{data_number_in, pilot_at, symbol_bin}
 -- each data number is that of its carrier's bin
 pub number_there : (k : ℕ) → k < 48 → data_number_in (bin_of (data_carrier_of k)) ≡ k
 unfolding data_number_in bin_of data_carrier_of
-number_there k lt = eqb-true _ _ (passes_at (λ k. eqb (data_number_in (bin_of (data_carrier_of k))) k) 48 refl k lt)
+number_there k lt = eqb-true _ _ (agree_below_at (λ k. eqb (data_number_in (bin_of (data_carrier_of k))) k) (λ _. true) 48 k refl lt)
 
 -- and its bin is the one where it was found
 back_test : ℕ → Bool
@@ -19,7 +18,7 @@ back_test bin = if nat_lt (data_number_in bin) 48 then eqb (bin_of (data_carrier
 
 back_passes : (bin : ℕ) → bin < 64 → back_test bin ≡ true
 unfolding back_test data_number_in bin_of data_carrier_of
-back_passes bin lt = passes_at back_test 64 refl bin lt
+back_passes bin lt = agree_below_at back_test (λ _. true) 64 bin refl lt
 
 pub bin_there : (bin : ℕ) → bin < 64 → data_number_in bin < 48 → bin_of (data_carrier_of (data_number_in bin)) ≡ bin
 unfolding back_test

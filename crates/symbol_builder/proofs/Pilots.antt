@@ -1,10 +1,9 @@
 -- The pilots: their signs, and their sizes.
 use Rattle.std.proofs.Common.{◌≡◌, ◌⊎◌, ℕ, ◌*◌, ◌<◌, ◌≤◌, Bool, true, false, leb, refl, arith, inl, inr, ℤ, pos, negsuc, ◌*ℤ◌, unsigned_abs, if◌then◌else◌}
-use Rattle.std.proofs.lemmas.Bool.{leb-true}
+use Rattle.std.proofs.lemmas.Bool.{leb-true, agree_below_at}
 use Rattle.integer_laws.proofs.Order.{unsigned_abs-product}
 use Rattle.integer_laws.proofs.Sizes.{size_of_parts}
 use Rattle.fixed_complex.specs.Pairs.{IsOfSize, IsWithin}
-use Rattle.butterfly64.proofs.ByPlace.{passes_at}
 use Rattle.training_fields.specs.Bins.{carrier_in}
 use Rattle.training_fields.specs.Signs.{sign_at}
 use Rattle.symbol_builder.specs.Carriers.{pilot_at, pilot_sign_of, polarity_of}
@@ -24,7 +23,7 @@ polarity_size n = elim (polarity_cases n) [ inl e ↦ rw e (omega arith) | inr e
 -- the sign in a bin has size 0 or 1
 pub sign_size : (bin : ℕ) → bin < 64 → unsigned_abs (pilot_sign_of (carrier_in bin)) ≤ 1
 unfolding sign_at
-sign_size bin lt = leb-true _ _ (passes_at (λ bin. leb (unsigned_abs (pilot_sign_of (carrier_in bin))) 1) 64 refl bin lt)
+sign_size bin lt = leb-true _ _ (agree_below_at (λ bin. leb (unsigned_abs (pilot_sign_of (carrier_in bin))) 1) (λ _. true) 64 bin refl lt)
 
 -- what a carrier carries as a pilot is at most 648 times its sign in size
 part_size : (n : ℕ) (s : ℤ) → unsigned_abs (pos 648 *ℤ (polarity_of n *ℤ s)) ≤ 648 * unsigned_abs s

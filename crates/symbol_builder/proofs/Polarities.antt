@@ -4,22 +4,6 @@ use Rattle.std.proofs.lemmas.Bool.{cases_eq}
 use Rattle.bit_lists.specs.Bits.{exclusive_or}
 use Rattle.ofdm_scrambler.specs.Sequence.{from_minus_seven}
 
--- a test passes at each place below n
-unfoldable pub passes_below : (ℕ → Bool) → ℕ → Bool
-passes_below p zero = true
-passes_below p (suc n) = p n && passes_below p n
-
-both_of : (x rest : Bool) → (x && rest) ≡ true → (x ≡ true) × (rest ≡ true)
-both_of true rest h = (refl, h)
-both_of false rest h = cc
-
-pub passes_at : (p : ℕ → Bool) (n : ℕ) → passes_below p n ≡ true → (k : ℕ) → k < n → p k ≡ true
-unfolding passes_below
-passes_at p zero h k lt = absurd (omega arith)
-passes_at p (suc n) h k lt =
-    let both = both_of (p n) (passes_below p n) h in
-    elim (cases_eq k n) [ inl same ↦ rw same both.0 | inr other ↦ passes_at p n both.1 k (omega arith) ]
-
 -- the recurrence of the sequence, at a place written as a sum
 recurrence : (n : ℕ) → from_minus_seven 127 (n + 7) ≡ exclusive_or (from_minus_seven 127 n) (from_minus_seven 127 (n + 3))
 unfolding from_minus_seven

@@ -2,33 +2,28 @@
 use Rattle.std.proofs.Common.{◌≡◌, ℕ, ◌*◌, ◌<◌, ◌≤◌, Bool, true, ◌&&◌, leb, map, sum, refl, arith, ℤ, pos, ◌+ℤ◌, ◌*ℤ◌, ◌≤ℤ◌, unsigned_abs}
 use Rattle.std.specs.Prelude.{int_le}
 use Rattle.std.specs.List.{range_with_len}
-use Rattle.std.proofs.lemmas.Bool.{leb-true}
+use Rattle.std.proofs.lemmas.Bool.{leb-true, agree_below_at, and_parts}
 use Rattle.std.proofs.lemmas.Int.{ints}
 use Rattle.std.proofs.lemmas.List.FromFn.{length-map-range_with_len}
 use Rattle.fixed_complex.specs.declared.Cx.{Cx}
 use Rattle.fixed_complex.specs.Pairs.{IsOfSize, IsWithin}
 use Rattle.butterfly64.specs.Bounds.{AreWithin}
-use Rattle.butterfly64.proofs.ByPlace.{both_of, passes_at}
 use Rattle.training_fields.specs.Bins.{all_bins, by_bin, carrier_in}
 use Rattle.training_fields.specs.Bounds.{FitASample}
 use Rattle.training_fields.specs.Signs.{sign_at}
 use Rattle.training_fields.specs.Training.{long_carrier, long_sign_of, short_carrier, short_sign_of}
 use Rattle.training_fields.proofs.Places.{entry-map}
-
-at_most : (x y : ℤ) → int_le x y ≡ true → x ≤ℤ y
-at_most x y h = grind (arith, ints)
+use Rattle.fixed_complex.proofs.ByTable.{is_of_size, is_within, size_test, within_test}
 
 -- a pair is of a size and within a bound, as a test
 abbrev pub fits_test : ℕ → ℕ → Cx → Bool
-fits_test size bound x = int_le (x.re *ℤ x.re +ℤ x.im *ℤ x.im) (pos (size * size)) && (leb (unsigned_abs x.re) bound && leb (unsigned_abs x.im) bound)
+fits_test size bound x = size_test size x && within_test bound x
 
 pub of_size : (size bound : ℕ) (x : Cx) → fits_test size bound x ≡ true → IsOfSize size x
-of_size size bound x h = record { size = at_most _ _ (both_of _ _ h).0 }
+of_size size bound x h = is_of_size size x (and_parts (size_test size x) (within_test bound x) h).0
 
 pub of_bound : (size bound : ℕ) (x : Cx) → fits_test size bound x ≡ true → IsWithin bound x
-of_bound size bound x h =
-    let parts = both_of _ _ (both_of _ _ h).1 in
-    record { re = leb-true _ _ parts.0; im = leb-true _ _ parts.1 }
+of_bound size bound x h = is_within bound x (and_parts (size_test size x) (within_test bound x) h).1
 
 -- carriers that pass the test in each bin
 pub carriers_within : (sizes : ℕ → ℕ) (bound : ℕ) (x : ℕ → Cx) → ((bin : ℕ) → bin < 64 → fits_test (sizes bin) bound (x bin) ≡ true) → AreWithin bound (map x (range_with_len 0 64))
@@ -51,7 +46,7 @@ short_size bin = 1350 * unsigned_abs (short_sign_of (carrier_in bin))
 
 short_passes : (bin : ℕ) → bin < 64 → fits_test (short_size bin) 954 (by_bin short_carrier bin) ≡ true
 unfolding sign_at short_size
-short_passes bin lt = passes_at (λ bin. fits_test (short_size bin) 954 (by_bin short_carrier bin)) 64 refl bin lt
+short_passes bin lt = agree_below_at (λ bin. fits_test (short_size bin) 954 (by_bin short_carrier bin)) (λ _. true) 64 bin refl lt
 
 short_total : sum (map short_size (range_with_len 0 64)) ≤ 50112
 unfolding sign_at short_size
@@ -69,7 +64,7 @@ long_size bin = 648 * unsigned_abs (long_sign_of (carrier_in bin))
 
 long_passes : (bin : ℕ) → bin < 64 → fits_test (long_size bin) 954 (by_bin long_carrier bin) ≡ true
 unfolding sign_at long_size
-long_passes bin lt = passes_at (λ bin. fits_test (long_size bin) 954 (by_bin long_carrier bin)) 64 refl bin lt
+long_passes bin lt = agree_below_at (λ bin. fits_test (long_size bin) 954 (by_bin long_carrier bin)) (λ _. true) 64 bin refl lt
 
 long_total : sum (map long_size (range_with_len 0 64)) ≤ 50112
 unfolding sign_at long_size

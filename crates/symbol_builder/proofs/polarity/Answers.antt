@@ -1,10 +1,11 @@
 use Rattle.std.proofs.Common.{◌≡◌, ℕ, ◌+◌, ◌-◌, ◌%◌, ◌<◌, ◌∙◌, Bool, true, false, ap, sym, refl, get_or, nat_eq, nat_lt, if◌then◌else◌, ℤ, pos, negsuc, w64, to_z, of_z, arith}
-use Rattle.std.proofs.lemmas.Bool.{eqb-true}
+use Rattle.std.proofs.lemmas.Bool.{eqb-true, agree_below_at}
 use Rattle.bit_lists.specs.Bits.{exclusive_or}
 use Rattle.ofdm_scrambler.specs.Sequence.{from_minus_seven}
 use Rattle.symbol_builder.specs.declared.TheConstants.{POLARITIES}
 use Rattle.symbol_builder.specs.Carriers.{polarity_of}
-use Rattle.symbol_builder.proofs.Polarities.{passes_below, passes_at, is_sequence}
+use Rattle.symbol_builder.proofs.Polarities.{is_sequence}
+use Rattle.fixed_complex.proofs.ByTable.{is_same, same_number}
 use Rattle.symbol_builder.proofs.polarity.Goals as goal
 
 -- the polarity at a place of the table
@@ -24,27 +25,14 @@ abbrev bits_from_minus_seven : ℕ → ℕ
 bits_from_minus_seven k = if nat_lt k 7 then 1 else bit_of (entry_at (k - 7))
 
 table_is_sequence : (j : ℕ) → j < 127 + 7 → from_minus_seven 127 j ≡ bits_from_minus_seven j
-unfolding passes_below from_minus_seven
+unfolding from_minus_seven
 table_is_sequence =
     is_sequence bits_from_minus_seven 127
-    (λ j lt. eqb-true _ _ (passes_at (λ j. nat_eq (from_minus_seven 127 j) (bits_from_minus_seven j)) 7 refl j lt))
-    (λ k lt. eqb-true _ _ (passes_at (λ k. nat_eq (bits_from_minus_seven (k + 7)) (exclusive_or (bits_from_minus_seven k) (bits_from_minus_seven (k + 3)))) 127 refl k lt))
-
-abbrev same_number : ℤ → ℤ → Bool
-same_number (pos a) (pos b) = nat_eq a b
-same_number (pos a) (negsuc b) = false
-same_number (negsuc a) (pos b) = false
-same_number (negsuc a) (negsuc b) = nat_eq a b
-
-is_same : (x y : ℤ) → same_number x y ≡ true → x ≡ y
-is_same (pos a) (pos b) h = ap pos (eqb-true a b h)
-is_same (pos a) (negsuc b) h = cc
-is_same (negsuc a) (pos b) h = cc
-is_same (negsuc a) (negsuc b) h = ap negsuc (eqb-true a b h)
+    (λ j lt. eqb-true _ _ (agree_below_at (λ j. nat_eq (from_minus_seven 127 j) (bits_from_minus_seven j)) (λ _. true) 7 j refl lt))
+    (λ k lt. eqb-true _ _ (agree_below_at (λ k. nat_eq (bits_from_minus_seven (k + 7)) (exclusive_or (bits_from_minus_seven k) (bits_from_minus_seven (k + 3)))) (λ _. true) 127 k refl lt))
 
 of_its_bit : (n : ℕ) → n < 127 → entry_at n ≡ polarity_for (bits_from_minus_seven (n + 7))
-unfolding passes_below
-of_its_bit n lt = is_same _ _ (passes_at (λ k. same_number (entry_at k) (polarity_for (bits_from_minus_seven (k + 7)))) 127 refl n lt)
+of_its_bit n lt = is_same _ _ (agree_below_at (λ k. same_number (entry_at k) (polarity_for (bits_from_minus_seven (k + 7)))) (λ _. true) 127 n refl lt)
 
 pub returns : goal.returns
 unfolding polarity_of

@@ -1,14 +1,13 @@
-use Rattle.std.proofs.Common.{◌≡◌, ℕ, ◌-◌, ◌<◌, ap, eqb, refl, ◌∙◌, arith, ℤ, pos, negsuc, neg_ℤ, ◌-ℤ◌, ◌≤ℤ◌}
-use Rattle.std.proofs.lemmas.Bool.{eqb-true, le-ltb, lt-ltb}
+use Rattle.std.proofs.Common.{◌≡◌, ℕ, ◌-◌, ◌<◌, ap, eqb, refl, ◌∙◌, arith, ℤ, pos, negsuc, neg_ℤ, ◌-ℤ◌, ◌≤ℤ◌, true}
+use Rattle.std.proofs.lemmas.Bool.{eqb-true, le-ltb, lt-ltb, agree_below_at}
 use Rattle.std.proofs.lemmas.Int.{ints}
-use Rattle.butterfly64.proofs.ByPlace.{passes_at}
 use Rattle.constellations.specs.Carriers.{bin_of}
 use Rattle.training_fields.specs.Bins.{carrier_in}
 use Rattle.symbol_builder.proofs.laws.carriers_and_bins.Goals as goal
 
 bin_back : (bin : ℕ) → bin < 64 → bin_of (carrier_in bin) ≡ bin
 unfolding bin_of
-bin_back bin lt = eqb-true _ _ (passes_at (λ bin. eqb (bin_of (carrier_in bin)) bin) 64 refl bin lt)
+bin_back bin lt = eqb-true _ _ (agree_below_at (λ bin. eqb (bin_of (carrier_in bin)) bin) (λ _. true) 64 bin refl lt)
 
 -- the carriers from 0 on, and those below it
 upper : (a : ℕ) → a < 32 → carrier_in a ≡ pos a

@@ -1,8 +1,7 @@
-use Rattle.std.proofs.Common.{◌≡◌, ℕ, ◌+◌, ◌<◌, ◌&&◌, eqb, nat_lt, ap, refl, sym, ◌∙◌, arith, inl, inr, ℤ, pos, negsuc, unsigned_abs, if◌then◌else◌}
-use Rattle.std.proofs.lemmas.Bool.{cases_lt, eqb-true}
+use Rattle.std.proofs.Common.{◌≡◌, ℕ, ◌+◌, ◌<◌, ◌&&◌, eqb, nat_lt, ap, refl, sym, ◌∙◌, arith, inl, inr, ℤ, pos, negsuc, unsigned_abs, if◌then◌else◌, true}
+use Rattle.std.proofs.lemmas.Bool.{cases_lt, eqb-true, agree_below_at}
 use Rattle.std.proofs.lemmas.Bool.Decides.{nat_tests}
 use Rattle.std.proofs.lemmas.Int.{ints}
-use Rattle.butterfly64.proofs.ByPlace.{passes_at}
 use Rattle.training_fields.specs.Signs.{sign_at}
 use Rattle.training_fields.specs.Training.{long_sign_of, long_signs}
 use Rattle.training_fields.proofs.Signs.{sign_above, sign_below}
@@ -17,11 +16,11 @@ none_above size h = grind (arith, nat_tests)
 
 from_0 : (n : ℕ) → n < 27 → unsigned_abs (long_sign_of (pos n)) ≡ one_at n
 unfolding sign_at
-from_0 n lt = eqb-true _ _ (passes_at (λ n. eqb (unsigned_abs (long_sign_of (pos n))) (one_at n)) 27 refl n lt)
+from_0 n lt = eqb-true _ _ (agree_below_at (λ n. eqb (unsigned_abs (long_sign_of (pos n))) (one_at n)) (λ _. true) 27 n refl lt)
 
 below_0 : (n : ℕ) → n < 26 → unsigned_abs (long_sign_of (negsuc n)) ≡ one_at (n + 1)
 unfolding sign_at
-below_0 n lt = eqb-true _ _ (passes_at (λ n. eqb (unsigned_abs (long_sign_of (negsuc n))) (one_at (n + 1))) 26 refl n lt)
+below_0 n lt = eqb-true _ _ (agree_below_at (λ n. eqb (unsigned_abs (long_sign_of (negsuc n))) (one_at (n + 1))) (λ _. true) 26 n refl lt)
 
 signs : (carrier : ℤ) → unsigned_abs (long_sign_of carrier) ≡ one_at (unsigned_abs carrier)
 signs (pos n) =
