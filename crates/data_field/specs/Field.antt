@@ -8,10 +8,6 @@ use Rattle.ofdm_scrambler.specs.Sequence.{scrambled}
 abbrev pub field_length : ℕ → ℕ → ℕ
 field_length field_bits octets = symbol_count field_bits octets * field_bits
 
--- a PSDU has at most so many octets
-abbrev pub most_octets : ℕ
-most_octets = 4095
-
 -- the field before scrambling: 16 SERVICE bits, all 0, the bits of the octets, and zeros to the end
 abbrev pub plain_field : ℕ → List ℕ → List ℕ
 plain_field field_bits psdu =

@@ -3,12 +3,13 @@ use Rattle.std.proofs.Common.{◌≡◌, ℕ, ◌+◌, ◌*◌, ◌<◌, ◌≤�
 use Rattle.std.proofs.lemmas.List.FromFn.{length-map-range_with_len}
 use Rattle.bit_lists.specs.Bits.{AreBits}
 use Rattle.rate_table.specs.declared.CodeRate.{CodeRate}
+use Rattle.rate_table.specs.Table.{flip_bound_of}
 use Rattle.rate_table.specs.declared.CodeRate.TheVariants.{Half, TwoThirds, ThreeQuarters}
 use Rattle.puncture_map.specs.Kept.{kept_count}
 use Rattle.survivor_memory.specs.Costs.{cost}
 use Rattle.survivor_memory.specs.Nearest.{IsClosed, IsNearest}
 use Rattle.kept_weights.specs.Weights.{kept_code, distance_over, least_weight}
-use Rattle.kept_weights.specs.Decisions.{pair_of, pairs_of, cost_of_decisions, repaired_changes, repaired_cost}
+use Rattle.kept_weights.specs.Decisions.{pair_of, pairs_of, cost_of_decisions, repaired_cost}
 use Rattle.kept_weights.proofs.Apart.{same_or_far, AreBits-kept_code}
 use Rattle.kept_weights.proofs.Costs.{cost-over_kept_code, cost-hard, costs_by_distance}
 
@@ -45,7 +46,7 @@ cheap_cost_is_least rate full n least decisions u w cw cheap nearest =
     sym nearest.costs ∙ ap (cost (pairs_of rate full decisions n)) (cheap_is_nearest rate full n least decisions u w cw cheap nearest)
 
 -- so many changes are fewer than half of the least kept weight
-few_changes : (rate : CodeRate) (changes : ℕ) → changes ≤ repaired_changes rate → 2 * changes < 1 * least_weight rate
+few_changes : (rate : CodeRate) (changes : ℕ) → changes ≤ flip_bound_of rate → 2 * changes < 1 * least_weight rate
 few_changes Half changes h = omega arith
 few_changes TwoThirds changes h = omega arith
 few_changes ThreeQuarters changes h = omega arith
@@ -57,17 +58,17 @@ small_cost TwoThirds sum h = omega arith
 small_cost ThreeQuarters sum h = omega arith
 
 -- hard decisions
-cheap_where_few : (rate : CodeRate) (n : ℕ) (decisions w : List ℕ) → AreBits decisions → IsClosed n w → distance_over (kept_count rate n) (kept_code rate w) decisions ≤ repaired_changes rate → 2 * cost (pairs_of rate 1 decisions n) w < 1 * least_weight rate
+cheap_where_few : (rate : CodeRate) (n : ℕ) (decisions w : List ℕ) → AreBits decisions → IsClosed n w → distance_over (kept_count rate n) (kept_code rate w) decisions ≤ flip_bound_of rate → 2 * cost (pairs_of rate 1 decisions n) w < 1 * least_weight rate
 cheap_where_few rate n decisions w bits cw few =
     rw (cost-hard rate n decisions w cw.long bits) (few_changes rate _ few)
 
 -- so the list is the nearest
-pub flips_repaired : (rate : CodeRate) (n least : ℕ) (decisions u w : List ℕ) → AreBits decisions → IsClosed n w → distance_over (kept_count rate n) (kept_code rate w) decisions ≤ repaired_changes rate → IsNearest (pairs_of rate 1 decisions n) u least → u ≡ w
+pub flips_repaired : (rate : CodeRate) (n least : ℕ) (decisions u w : List ℕ) → AreBits decisions → IsClosed n w → distance_over (kept_count rate n) (kept_code rate w) decisions ≤ flip_bound_of rate → IsNearest (pairs_of rate 1 decisions n) u least → u ≡ w
 flips_repaired rate n least decisions u w bits cw few =
     cheap_is_nearest rate 1 n least decisions u w cw (cheap_where_few rate n decisions w bits cw few)
 
 -- and its cost is the number of changes
-pub flips_counted : (rate : CodeRate) (n least : ℕ) (decisions u w : List ℕ) → AreBits decisions → IsClosed n w → distance_over (kept_count rate n) (kept_code rate w) decisions ≤ repaired_changes rate → IsNearest (pairs_of rate 1 decisions n) u least → least ≡ distance_over (kept_count rate n) (kept_code rate w) decisions
+pub flips_counted : (rate : CodeRate) (n least : ℕ) (decisions u w : List ℕ) → AreBits decisions → IsClosed n w → distance_over (kept_count rate n) (kept_code rate w) decisions ≤ flip_bound_of rate → IsNearest (pairs_of rate 1 decisions n) u least → least ≡ distance_over (kept_count rate n) (kept_code rate w) decisions
 flips_counted rate n least decisions u w bits cw few nearest =
     cheap_cost_is_least rate 1 n least decisions u w cw (cheap_where_few rate n decisions w bits cw few) nearest
     ∙ cost-hard rate n decisions w cw.long bits

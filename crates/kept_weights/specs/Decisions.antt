@@ -37,13 +37,7 @@ unfoldable pub cost_of_decisions : ℕ → List ℕ → ℕ → List ℕ → ℕ
 cost_of_decisions full decisions count bits =
     sum_by (λ place. decision_cost full (slice_index decisions place) (slice_index bits place)) (range_with_len 0 count)
 
--- how many changed hard decisions the nearest list repairs
-abbrev pub repaired_changes : CodeRate → ℕ
-repaired_changes Half = 4
-repaired_changes TwoThirds = 2
-repaired_changes ThreeQuarters = 2
-
--- and what soft decisions may cost against the kept code of the list that it finds again
+-- what soft decisions may cost against the kept code of the list that the nearest list then is
 abbrev pub repaired_cost : CodeRate → ℕ
 repaired_cost Half = 74
 repaired_cost TwoThirds = 44

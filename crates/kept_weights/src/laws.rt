@@ -3,13 +3,12 @@
 ghost use Rattle.std.specs.Prelude.{◌≡◌, ◌≢◌, ◌≤◌, ◌<◌, ◌+◌, ◌*◌, ℕ, List, [], ◌∷◌, ◌++◌, length, map, slice_index, take};
 ghost use Rattle.bit_lists.specs.Bits.{AreBits};
 ghost use Rattle.rate_table.specs.declared.CodeRate.{CodeRate};
-ghost use Rattle.rate_table.specs.declared.Rate.{Rate};
-ghost use Rattle.rate_table.specs.Table.{row_of};
+ghost use Rattle.rate_table.specs.Table.{flip_bound_of};
 ghost use Rattle.puncture_map.specs.Kept.{kept_count};
 ghost use Rattle.survivor_memory.specs.Costs.{cost};
 ghost use Rattle.survivor_memory.specs.Nearest.{IsClosed, IsNearest};
 ghost use Rattle.kept_weights.specs.Weights.{kept_code, kept_weight, distance_over, least_weight};
-ghost use Rattle.kept_weights.specs.Decisions.{pair_of, pairs_of, cost_of_decisions, repaired_changes, repaired_cost};
+ghost use Rattle.kept_weights.specs.Decisions.{pair_of, pairs_of, cost_of_decisions, repaired_cost};
 ghost use Rattle.kept_weights.specs.Potentials.{IsPotential, potential_of};
 
 /// Each code rate has a potential, by a table over phase and state (own).
@@ -58,14 +57,13 @@ pub fn cheap_list_is_nearest()
 pub fn flips_are_repaired()
     ensures list { (rate : CodeRate) (steps least : ℕ) (decisions u w : List ℕ) → AreBits decisions
         → IsClosed steps w
-        → distance_over (kept_count rate steps) (kept_code rate w) decisions ≤ repaired_changes rate
+        → distance_over (kept_count rate steps) (kept_code rate w) decisions ≤ flip_bound_of rate
         → IsNearest (pairs_of rate 1 decisions steps) u least → u ≡ w }
     ensures distance { (rate : CodeRate) (steps least : ℕ) (decisions u w : List ℕ) → AreBits decisions
         → IsClosed steps w
-        → distance_over (kept_count rate steps) (kept_code rate w) decisions ≤ repaired_changes rate
+        → distance_over (kept_count rate steps) (kept_code rate w) decisions ≤ flip_bound_of rate
         → IsNearest (pairs_of rate 1 decisions steps) u least
         → least ≡ distance_over (kept_count rate steps) (kept_code rate w) decisions }
-    ensures bound { (rate : Rate) → (row_of rate).flip_bound ≡ repaired_changes (row_of rate).code_rate }
 {}
 
 /// The same of soft decisions, 0 to 15, that cost at most 74, 44 or 37 against the list's kept code (own).

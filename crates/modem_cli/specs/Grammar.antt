@@ -4,7 +4,7 @@ use Rattle.std.specs.Global.{Global}
 use Rattle.rate_table.specs.declared.Rate.{Rate}
 use Rattle.rate_table.specs.Table.{row_of}
 use Rattle.ofdm_scrambler.specs.Sequence.{IsSeed}
-use Rattle.data_field.specs.Field.{most_octets}
+pub use Rattle.rate_table.specs.Symbols.{IsLength}
 use Rattle.modem_cli.specs.declared.words.Stage.{Stage}
 use Rattle.modem_cli.specs.declared.words.Stage.TheVariants.{Scrambled, Coded, Kept, Interleaved, Points, Header, Samples}
 use Rattle.modem_cli.specs.declared.words.Command.{Command}
@@ -27,10 +27,6 @@ stage_word Samples = codes "samples"
 -- the words RATE SEED
 abbrev pub rate_and_seed : Rate → ℕ → List (List ℕ)
 rate_and_seed rate seed = decimal (row_of rate).mbps ∷ decimal seed ∷ []
-
--- a PSDU's number of octets is from 1 to 4095
-abbrev pub IsLength : ℕ → Type 0
-IsLength length = (1 ≤ length) × (length ≤ most_octets)
 
 -- a word writes no number that a `u32` holds
 abbrev pub WritesNoNumber : List ℕ → Type 0

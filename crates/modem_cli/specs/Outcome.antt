@@ -7,8 +7,8 @@ use Rattle.rate_table.specs.Symbols.{symbol_count}
 use Rattle.rate_table.specs.Table.{row_of}
 use Rattle.modem_links.specs.Fields.{IsFieldOf}
 use Rattle.modem_links.specs.Frames.{sent_bytes, sent_frame, signal_code}
-use Rattle.data_field.specs.Field.{most_octets}
 use Rattle.modem_ports.specs.Limits.{most_input}
+use Rattle.rate_table.specs.Symbols.{most_octets}
 use Rattle.data_field.specs.Stages.{field_at, code_at, kept_at, interleaved_at}
 use Rattle.symbol_builder.specs.Points.{points_at}
 use Rattle.modem_cli.specs.Pairs.{text_of_pairs, text_of_samples}

@@ -4,7 +4,7 @@ ghost use Rattle.modem_ports.specs.Counts.{Rose};
 ghost use Rattle.modem_ports.specs.Told.{GivesAtMost, GivesExactly, IsAtEnd, Takes, TakesPrefix};
 ghost use Rattle.bit_lists.specs.Bits.{AreBits};
 ghost use Rattle.bit_lists.specs.Text.{IsBadPlace, IsTextOf};
-ghost use Rattle.data_field.specs.Field.{most_octets};
+ghost use Rattle.rate_table.specs.Symbols.{most_octets};
 ghost use Rattle.modem_links.specs.Frames.{sent_bytes};
 ghost use Rattle.modem_cli.specs.Answers.{bytes_of_answer};
 ghost use Rattle.modem_cli.specs.Flips.{IsFlippedText, IsWrittenUnlessNoMemory};

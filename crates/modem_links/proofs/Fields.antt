@@ -9,7 +9,6 @@ use Rattle.std.specs.List.{range_with_len}
 use Rattle.bit_lists.proofs.EightBits.{length-bits_of_octets}
 use Rattle.data_field.specs.Stages.{field_at}
 use Rattle.data_field.specs.Field.{data_field, field_length, plain_field, with_tail}
-use Rattle.kept_weights.specs.Decisions.{repaired_changes}
 use Rattle.kept_weights.specs.Weights.{distance_over, kept_code}
 use Rattle.kept_weights.proofs.Fronts.{distance_over-take}
 use Rattle.ofdm_scrambler.specs.Sequence.{IsSeed, scrambled, scrambler_bit, scrambler_sequence}
@@ -20,6 +19,7 @@ use Rattle.rate_table.specs.declared.Rate.{Rate}
 use Rattle.rate_table.specs.declared.Rate.TheVariants.{R6, R9, R12, R18, R24, R36, R48, R54}
 use Rattle.rate_table.specs.Symbols.{bits_through_tail, symbol_count, tail_place}
 use Rattle.rate_table.specs.Table.{row_of}
+use Rattle.rate_table.proofs.ByRate.{flip_bound_by_code_rate}
 use Rattle.survivor_memory.specs.Nearest.{IsClosed}
 use Rattle.viterbi_lanes.specs.Decisions.{AreNearlyKeptCode, changes}
 use Rattle.modem_links.specs.Fields.{NamesFront, flips}
@@ -188,16 +188,6 @@ flips_are_changes rate seed psdu decisions =
     distance_over-take code_rate steps field decisions within
     ∙ ap (λ u. distance_over (kept_count code_rate steps) (kept_code code_rate u) decisions) (front_of_field rate seed psdu)
 
-flip_bound_is : (rate : Rate) → (row_of rate).flip_bound ≡ repaired_changes (row_of rate).code_rate
-flip_bound_is R6 = refl
-flip_bound_is R9 = refl
-flip_bound_is R12 = refl
-flip_bound_is R18 = refl
-flip_bound_is R24 = refl
-flip_bound_is R36 = refl
-flip_bound_is R48 = refl
-flip_bound_is R54 = refl
-
 -- so few flips leave decisions that are nearly the kept code of the front
 pub nearly_front : (rate : Rate) (seed octets : ℕ) (psdu decisions : List ℕ) → length psdu ≡ octets → AreBits decisions → flips rate seed psdu decisions ≤ (row_of rate).flip_bound → AreNearlyKeptCode (row_of rate).code_rate (bits_through_tail octets) (field_front (row_of rate).field_bits seed psdu) decisions
 nearly_front rate seed octets psdu decisions long bits few =
@@ -205,7 +195,7 @@ nearly_front rate seed octets psdu decisions long bits few =
     (record {
       bits = bits;
       closed = front_is_closed rate seed psdu;
-      few = omega (arith, few, flips_are_changes rate seed psdu decisions, flip_bound_is rate);
+      few = omega (arith, few, flips_are_changes rate seed psdu decisions, flip_bound_by_code_rate rate);
     })
 
 pub undone_psdu : (rate : Rate) (seed number octets : ℕ) (psdu bits : List ℕ) → length psdu ≡ octets → number ≡ seed → bits ≡ field_front (row_of rate).field_bits seed psdu → bits_of_octets psdu ≡ take (8 * octets) (drop 16 (scrambled number bits))

@@ -17,10 +17,11 @@ use Rattle.rate_table.specs.declared.Modulation.{Modulation}
 use Rattle.rate_table.specs.declared.Rate.{Rate}
 use Rattle.rate_table.specs.declared.Rate.TheVariants.{R6, R9, R12, R18, R24, R36, R48, R54}
 use Rattle.rate_table.specs.Symbols.{symbol_count}
-use Rattle.rate_table.specs.Table.{row_of}
+use Rattle.rate_table.specs.Table.{bits_of_modulation, row_of}
+use Rattle.rate_table.proofs.ByRate.{coded_bits_by_modulation}
 use Rattle.signal_field.specs.Signal.{header_bits_of}
 use Rattle.symbol_builder.specs.Carriers.{plain_symbol, sent_symbol}
-use Rattle.symbol_builder.specs.Points.{bits_per_point, points_of, points_of_code}
+use Rattle.symbol_builder.specs.Points.{points_of, points_of_code}
 use Rattle.training_fields.specs.Bodies.{plain_body, sent_body}
 use Rattle.training_fields.specs.Bounds.{AreSamplesWithin}
 use Rattle.training_fields.specs.Nearness.{AreNearPlain}
@@ -30,7 +31,7 @@ use Rattle.modem_links.proofs.Begun.{all_symbols, begun_frame, no_symbols, one_s
 
 -- what the laws below ensure
 abbrev pub SmallPoints : Type 0
-SmallPoints = (modulation : Modulation) (bits : List ℕ) → AreBits bits → 48 * bits_per_point modulation ≤ length bits → AreWithin 700 (points_of modulation bits)
+SmallPoints = (modulation : Modulation) (bits : List ℕ) → AreBits bits → 48 * bits_of_modulation modulation ≤ length bits → AreWithin 700 (points_of modulation bits)
 
 abbrev pub NearSymbols : Type 0
 NearSymbols = (points : List Cx) (n : ℕ) → AreWithin 700 points → AreNearPlain 1 (sent_symbol points n) (plain_symbol points n)
@@ -45,18 +46,8 @@ abbrev pub SmallBehind : Type 0
 SmallBehind = (bound : ℕ) (front back : List Sample) → AreSamplesWithin bound front → AreSamplesWithin bound back → AreSamplesWithin bound (front ++ back)
 
 -- a symbol has 48 groups of bits
-groups : (rate : Rate) → 48 * bits_per_point (row_of rate).modulation ≤ (row_of rate).coded_bits
-groups rate =
-    elim rate as (λ r. 48 * bits_per_point (row_of r).modulation ≤ (row_of r).coded_bits) [
-      | R6 ↦ omega arith
-      | R9 ↦ omega arith
-      | R12 ↦ omega arith
-      | R18 ↦ omega arith
-      | R24 ↦ omega arith
-      | R36 ↦ omega arith
-      | R48 ↦ omega arith
-      | R54 ↦ omega arith
-    ]
+groups : (rate : Rate) → 48 * bits_of_modulation (row_of rate).modulation ≤ (row_of rate).coded_bits
+groups rate = omega (arith, coded_bits_by_modulation rate)
 
 IsBit-slice_index : (bits : List ℕ) → AreBits bits → (k : ℕ) → IsBit (slice_index bits k)
 IsBit-slice_index bits are k =

@@ -8,7 +8,7 @@ ghost use Rattle.modem_links.specs.Frames.{plain_frame, sent_bytes, sent_frame, 
 ghost use Rattle.modem_links.specs.declared.frames.SendFault.TheVariants.{NoMemory};
 ghost use Rattle.modem_ports.specs.Counts.{Rose};
 ghost use Rattle.modem_ports.specs.Told.{Takes, TakesPrefix};
-ghost use Rattle.rate_table.specs.Symbols.{symbol_count};
+ghost use Rattle.rate_table.specs.Symbols.{IsLength, symbol_count};
 ghost use Rattle.rate_table.specs.Table.{row_of};
 ghost use Rattle.rate_table.specs.declared.Rate.TheVariants.{R6};
 ghost use Rattle.symbol_builder.specs.Carriers.{plain_symbol, sent_symbol};
@@ -66,8 +66,7 @@ pub fn send<K: Sink>(
     psdu: &[u8],
     sink: &mut K,
 ) -> Result<(), SendFault>
-    requires some { 1 ≤ length psdu.now }
-    requires most { length psdu.now ≤ 4095 }
+    requires octets { IsLength (length psdu.now) }
     ensures ok { OnOk result (Takes (K.taken sink.old) (sent_bytes rate seed psdu.now) (K.taken sink.new)) }
     ensures failed { IsErrOf result SendFault.Failed → Rose (K.faults sink.old) (K.faults sink.new) }
     ensures prefix { IsErrOf result SendFault.Failed
@@ -94,8 +93,7 @@ pub fn frame_samples(
     seed: Seed,
     psdu: &[u8],
 ) -> Result<Vec<Sample>, AllocError>
-    requires some { 1 ≤ length psdu.now }
-    requires most { length psdu.now ≤ 4095 }
+    requires octets { IsLength (length psdu.now) }
     ensures samples { IfOk result (λ samples. samples.items ≡ sent_frame rate seed psdu.now) }
     ensures near { IfOk result (λ samples. AreNearPlain 1 samples.items (plain_frame rate seed psdu.now)) }
     ensures within { IfOk result (λ samples. AreSamplesWithin 25057 samples.items) }
@@ -117,8 +115,7 @@ pub fn frame_samples(
 
 // The samples of the preamble and of SIGNAL, for a PSDU of so many octets.
 fn frame_head(alloc: Global, rate: Rate, octets: u16) -> Result<Vec<Sample>, AllocError>
-    requires some { 1 ≤ octets }
-    requires most { octets ≤ 4095 }
+    requires octets { IsLength octets }
     ensures samples { IfOk result (λ samples. samples.items
         ≡ preamble_of sent_body ++ sent_symbol (points_of_code R6 (signal_code rate octets)) 0) }
     ensures len { IfOk result (λ samples. length samples.items ≡ 400) }
@@ -133,8 +130,7 @@ fn frame_head(alloc: Global, rate: Rate, octets: u16) -> Result<Vec<Sample>, All
 /// The 48 bits of SIGNAL's code, before they are interleaved, for a PSDU of so many octets, 1 to 4095; the reserved bit
 /// is 0 (IEEE Std 802.11-2012, 18.3.4). Takes no memory.
 pub fn signal_code(rate: Rate, octets: u16) -> [u8; 48]
-    requires some { 1 ≤ octets }
-    requires most { octets ≤ 4095 }
+    requires octets { IsLength octets }
     ensures code { result ≡ signal_code rate octets }
     ensures bits { AreBits result }
 {

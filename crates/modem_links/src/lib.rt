@@ -14,7 +14,7 @@ ghost use Rattle.data_field.specs.Stages.{kept_at};
 ghost use Rattle.modem_links.specs.Fields.{IsFieldOf, NamesFront, flips, psdu_in};
 ghost use Rattle.modem_ports.specs.Counts.{raised_by};
 ghost use Rattle.ofdm_scrambler.specs.Sequence.{IsSeed, scrambled};
-ghost use Rattle.rate_table.specs.Symbols.{bits_through_tail, symbol_count};
+ghost use Rattle.rate_table.specs.Symbols.{IsLength, bits_through_tail, symbol_count};
 ghost use Rattle.rate_table.specs.Table.{row_of};
 
 use bit_lists::{Octets, bytes_of};
@@ -40,8 +40,7 @@ pub struct Field {
 /// The kept code of the DATA field of a PSDU of 1 to 4095 octets (IEEE Std 802.11-2012, 18.3.5.1 to 18.3.5.6). The only
 /// error is want of memory.
 pub fn coded(alloc: Global, rate: Rate, seed: Seed, psdu: &[u8]) -> Result<Vec<u8>, AllocError>
-    requires some { 1 ≤ length psdu.now }
-    requires most { length psdu.now ≤ 4095 }
+    requires octets { IsLength (length psdu.now) }
     ensures kept { IfOk result (λ kept. kept.items ≡ kept_at rate seed psdu.now) }
     ensures bits { IfOk result (λ kept. AreBits kept.items) }
     ensures len { IfOk result (λ kept.
@@ -62,8 +61,7 @@ pub fn decode_field(
     decisions: &[u8],
     steps: &mut Steps,
 ) -> Result<Field, AllocError>
-    requires some { 1 ≤ octets }
-    requires most { octets ≤ 4095 }
+    requires octets { IsLength octets }
     requires bits { AreBits decisions.now }
     requires whole { length decisions.now ≡ symbol_count (row_of rate).field_bits octets * (row_of rate).coded_bits }
     ensures field { IfOk result (λ field. IsFieldOf rate octets decisions.now field.seed field.psdu field.distance) }

@@ -3,8 +3,11 @@
 
 ghost use Rattle.std.specs.Prelude.{◌≡◌, ◌≢◌, ◌↔◌, ℕ, ◌*◌, ◌<◌, ◌≤◌, IfSome, IfNone, IsNone};
 ghost use Rattle.rate_table.specs.declared.Rate.{Rate};
-ghost use Rattle.rate_table.specs.Table.{row_of, rate_at};
-ghost use Rattle.rate_table.specs.Symbols.{bits_through_tail, symbol_count};
+ghost use Rattle.rate_table.specs.Table.{bits_of_modulation, rate_at, row_of};
+ghost use Rattle.rate_table.specs.Symbols.{IsLength, bits_through_tail, symbol_count};
+
+/// The most octets that a PSDU has; the fewest is 1 (IEEE Std 802.11-2012, 18.3.4.3).
+pub const MOST_OCTETS: u16 = 4095;
 
 /// The modulation of a data carrier (IEEE Std 802.11-2012, 18.3.5.8).
 #[derive(Clone, Copy, Debug, PartialEq, Eq)]
@@ -13,6 +16,21 @@ pub enum Modulation {
     Qpsk,
     Qam16,
     Qam64,
+}
+
+impl Modulation {
+    /// N_BPSC: the coded bits of a carrier, 1 to 6 (IEEE Std 802.11-2012, 18.3.2.3).
+    pub fn bits_per_carrier(self) -> usize
+        ensures value { result ≡ bits_of_modulation self }
+        ensures at_most { result ≤ 6 }
+    {
+        match self {
+            Modulation::Bpsk => 1,
+            Modulation::Qpsk => 2,
+            Modulation::Qam16 => 4,
+            Modulation::Qam64 => 6,
+        }
+    }
 }
 
 /// The rate of the code once it is punctured (IEEE Std 802.11-2012, 18.3.5.6).
@@ -154,12 +172,7 @@ impl Rate {
     pub fn bits_per_carrier(self) -> usize
         ensures { result ≡ (row_of self).bits_per_carrier }
     {
-        match self.modulation() {
-            Modulation::Bpsk => 1,
-            Modulation::Qpsk => 2,
-            Modulation::Qam16 => 4,
-            Modulation::Qam64 => 6,
-        }
+        self.modulation().bits_per_carrier()
     }
 
     /// N_CBPS: the coded bits of a symbol, 48 to 288, which has 48 data carriers (IEEE Std 802.11-2012, 18.3.2.3).
@@ -206,8 +219,7 @@ impl Rate {
     /// N_SYM: the number of symbols of the DATA field of so many octets, from 1 to 4095 (IEEE Std 802.11-2012,
     /// 18.3.5.4).
     pub fn symbols(self, length: u16) -> u32
-        requires some { 1 ≤ length }
-        requires most { length ≤ 4095 }
+        requires octets { IsLength length }
         ensures ceiling { result ≡ symbol_count (row_of self).field_bits length }
         ensures enough { bits_through_tail length ≤ result * (row_of self).field_bits }
         ensures none_fewer { (fewer : ℕ) → fewer < result

@@ -4,6 +4,7 @@
 ghost use Rattle.std.specs.Prelude.{◌≡◌, ◌%◌, ◌<◌, ◌≤◌, length, sum, take};
 ghost use Rattle.bit_lists.specs.Bits.{AreBits, IsBit};
 ghost use Rattle.conv_code.specs.Code.{code_of};
+ghost use Rattle.rate_table.specs.Symbols.{IsLength};
 ghost use Rattle.signal_field.specs.Signal.{bits_of_number, even_parity, front_bits_of, header_bits_of};
 
 use conv_code::{branch, next_state};
@@ -25,8 +26,7 @@ pub struct Header {
 /// The 24 bits of a header: R1 to R4, the reserved bit, LENGTH with its least significant bit first, even parity, and
 /// six zeros (IEEE Std 802.11-2012, 18.3.4). LENGTH is 1 to 4095, the reserved bit 0 or 1. Takes no memory.
 pub fn header_bits(header: &Header) -> [u8; 24]
-    requires some { 1 ≤ header.now.length }
-    requires most { header.now.length ≤ 4095 }
+    requires octets { IsLength header.now.length }
     requires reserved { IsBit header.now.reserved }
     ensures list { result ≡ header_bits_of header.now.rate header.now.length header.now.reserved }
     ensures bits { AreBits result }
@@ -42,8 +42,7 @@ pub fn header_bits(header: &Header) -> [u8; 24]
 /// The code of a header's 24 bits, before it is interleaved (IEEE Std 802.11-2012, 18.3.4 and 18.3.5.6). LENGTH is 1 to
 /// 4095, the reserved bit 0 or 1. Takes no memory.
 pub fn header_code(header: &Header) -> [u8; 48]
-    requires some { 1 ≤ header.now.length }
-    requires most { header.now.length ≤ 4095 }
+    requires octets { IsLength header.now.length }
     requires reserved { IsBit header.now.reserved }
     ensures list { result ≡ code_of (header_bits_of header.now.rate header.now.length header.now.reserved) }
     ensures bits { AreBits result }

@@ -7,11 +7,11 @@ use Rattle.fixed_complex.specs.declared.Cx.{Cx}
 use Rattle.rate_table.specs.declared.Modulation.{Modulation}
 use Rattle.rate_table.specs.declared.Modulation.TheVariants.{Bpsk, Qpsk, Qam16, Qam64}
 use Rattle.rate_table.specs.declared.Rate.{Rate}
-use Rattle.rate_table.specs.declared.Rate.TheVariants.{R6, R9, R12, R18, R24, R36, R48, R54}
-use Rattle.rate_table.specs.Table.{row_of}
+use Rattle.rate_table.specs.Table.{bits_of_modulation, row_of}
+use Rattle.rate_table.proofs.ByRate.{coded_bits_by_modulation}
 use Rattle.constellations.specs.Axes.{axis_of}
 use Rattle.constellations.specs.Points.{point_of}
-use Rattle.symbol_builder.specs.Points.{bits_per_point, point_at, points_of}
+use Rattle.symbol_builder.specs.Points.{point_at, points_of}
 
 first_half : (w : ℕ) (bits rest : List ℕ) → w ≤ length bits → take w (bits ++ rest) ≡ take w bits
 first_half w bits rest le = take-append-le w bits rest le
@@ -20,7 +20,7 @@ second_half : (w : ℕ) (bits rest : List ℕ) → w + w ≤ length bits → tak
 second_half w bits rest le =
     sym (drop-take w w (bits ++ rest)) ∙ ap (drop w) (first_half (w + w) bits rest le) ∙ drop-take w w bits
 
-pub point_of_front : (modulation : Modulation) (bits rest : List ℕ) → length bits ≡ bits_per_point modulation → point_of modulation (bits ++ rest) ≡ point_of modulation bits
+pub point_of_front : (modulation : Modulation) (bits rest : List ℕ) → length bits ≡ bits_of_modulation modulation → point_of modulation (bits ++ rest) ≡ point_of modulation bits
 unfolding point_of
 point_of_front Bpsk bits rest e =
     let i = ap (axis_of Bpsk) (first_half 1 bits rest (omega arith)) in
@@ -39,7 +39,7 @@ point_of_front Qam64 bits rest e =
     λ t. record { re = i t; im = q t }
 
 -- the point of the d-th group of N_BPSC bits
-pub group_is : (modulation : Modulation) (bits : List ℕ) (width d : ℕ) → width ≡ bits_per_point modulation → point_of modulation (take ((width * d + width) - width * d) (drop (width * d) bits)) ≡ point_at modulation bits d
+pub group_is : (modulation : Modulation) (bits : List ℕ) (width d : ℕ) → width ≡ bits_of_modulation modulation → point_of modulation (take ((width * d + width) - width * d) (drop (width * d) bits)) ≡ point_at modulation bits d
 group_is modulation bits width d e =
     let size : (width * d + width) - width * d ≡ width = omega arith in
     ap (λ n. point_of modulation (take n (drop (width * d) bits))) size
@@ -52,16 +52,6 @@ group_of_front bits w d count le =
     let split : count ≡ w * d + rest = omega arith in
     let inside : take w (take rest (drop (w * d) bits)) ≡ take w (drop (w * d) bits) = take-take w rest (drop (w * d) bits) (omega arith) in
     rw (split, drop-take (w * d) rest bits) (sym inside)
-
-coded_bits_are : (rate : Rate) → (row_of rate).coded_bits ≡ 48 * bits_per_point (row_of rate).modulation
-coded_bits_are R6 = refl
-coded_bits_are R9 = refl
-coded_bits_are R12 = refl
-coded_bits_are R18 = refl
-coded_bits_are R24 = refl
-coded_bits_are R36 = refl
-coded_bits_are R48 = refl
-coded_bits_are R54 = refl
 
 -- two functions that agree on a range give one list
 same_lists : (f g : ℕ → Cx) (a n : ℕ) → ((k : ℕ) → a ≤ k → k < a + n → f k ≡ g k) → map f (range_with_len a n) ≡ map g (range_with_len a n)
@@ -78,7 +68,7 @@ group_within w d lt = let most : w * (d + 1) ≤ w * 48 = mul-le-mul_left w (ome
 pub points_of_front : (modulation : Modulation) (bits : List ℕ) (rate : Rate) → (row_of rate).modulation ≡ modulation → points_of modulation bits ≡ points_of modulation (take (row_of rate).coded_bits bits)
 unfolding points_of
 points_of_front modulation bits rate e =
-    let w = bits_per_point modulation in
-    let count : (row_of rate).coded_bits ≡ 48 * w = coded_bits_are rate ∙ ap (λ m. 48 * bits_per_point m) e in
+    let w = bits_of_modulation modulation in
+    let count : (row_of rate).coded_bits ≡ 48 * w = coded_bits_by_modulation rate ∙ ap (λ m. 48 * bits_of_modulation m) e in
     same_lists (point_at modulation bits) (point_at modulation (take (row_of rate).coded_bits bits)) 0 48
     (λ d le lt. ap (point_of modulation) (group_of_front bits w d (row_of rate).coded_bits (subst (λ n. w * d + w ≤ n) (sym count) (group_within w d (omega arith)))))

@@ -3,24 +3,17 @@ use Rattle.std.specs.Prelude.{ℕ, ◌*◌, List, map, take, drop, length}
 use Rattle.std.specs.List.{flat_map, range_with_len}
 use Rattle.fixed_complex.specs.declared.Cx.{Cx}
 use Rattle.rate_table.specs.declared.Modulation.{Modulation}
-use Rattle.rate_table.specs.declared.Modulation.TheVariants.{Bpsk, Qpsk, Qam16, Qam64}
 use Rattle.rate_table.specs.declared.Rate.{Rate}
-use Rattle.rate_table.specs.Table.{row_of}
+use Rattle.rate_table.specs.Table.{bits_of_modulation, row_of}
 use Rattle.rate_table.specs.Symbols.{symbol_count}
 use Rattle.constellations.specs.Points.{point_of}
 use Rattle.interleave_two.specs.Place.{interleaved, symbol_bits}
 use Rattle.data_field.specs.Stages.{kept_at}
 
--- N_BPSC of a modulation
-abbrev pub bits_per_point : Modulation → ℕ
-bits_per_point Bpsk = 1
-bits_per_point Qpsk = 2
-bits_per_point Qam16 = 4
-bits_per_point Qam64 = 6
-
 -- the point of data number d: that of the d-th group of N_BPSC interleaved bits
 abbrev pub point_at : Modulation → List ℕ → ℕ → Cx
-point_at modulation bits d = point_of modulation (take (bits_per_point modulation) (drop (bits_per_point modulation * d) bits))
+point_at modulation bits d =
+    point_of modulation (take (bits_of_modulation modulation) (drop (bits_of_modulation modulation * d) bits))
 
 -- the 48 points of a symbol's interleaved bits
 unfoldable pub points_of : Modulation → List ℕ → List Cx

@@ -1,6 +1,7 @@
 //! The DATA field of a frame.
 ghost use Rattle.std.specs.Prelude.{◌≡◌, ◌+◌, ◌*◌, ◌≤◌, length, vec_len, IfOk};
 ghost use Rattle.bit_lists.specs.Bits.{AreBits};
+ghost use Rattle.rate_table.specs.Symbols.{IsLength};
 ghost use Rattle.rate_table.specs.Table.{row_of};
 ghost use Rattle.data_field.specs.Field.{field_length, plain_field, with_tail};
 ghost use Rattle.ofdm_scrambler.specs.Sequence.{scrambled};
@@ -25,8 +26,7 @@ pub fn frame_field(
     seed: Seed,
     psdu: &[u8],
 ) -> Result<Vec<u8>, AllocError>
-    requires some { 1 ≤ length psdu.now }
-    requires most { length psdu.now ≤ 4095 }
+    requires octets { IsLength (length psdu.now) }
     ensures field { IfOk result (λ field. field.items ≡ field_at rate seed psdu.now) }
     ensures bits { IfOk result (λ field. AreBits field.items) }
     ensures len { IfOk result (λ field. vec_len field ≡ field_length (row_of rate).field_bits (length psdu.now)) }
@@ -39,8 +39,7 @@ pub fn frame_field(
 
 // The field before scrambling: SERVICE, the PSDU, and zeros to the end.
 fn unscrambled_field(alloc: Global, rate: Rate, psdu: &[u8]) -> Result<Vec<u8>, AllocError>
-    requires some { 1 ≤ length psdu.now }
-    requires most { length psdu.now ≤ 4095 }
+    requires octets { IsLength (length psdu.now) }
     ensures field { IfOk result (λ field. field.items ≡ plain_field (row_of rate).field_bits psdu.now) }
     ensures bits { IfOk result (λ field. AreBits field.items) }
     ensures len { IfOk result (λ field. vec_len field ≡ field_length (row_of rate).field_bits (length psdu.now)) }

@@ -7,12 +7,13 @@ ghost use Rattle.butterfly64.specs.Bounds.{AreWithin};
 ghost use Rattle.fixed_complex.specs.declared.Cx.{Cx};
 ghost use Rattle.fixed_complex.specs.Pairs.{zero_pair};
 ghost use Rattle.constellations.specs.Carriers.{bin_of, carries_data, data_carrier_of};
+ghost use Rattle.rate_table.specs.Table.{bits_of_modulation};
 ghost use Rattle.rate_table.specs.declared.Modulation.{Modulation};
 ghost use Rattle.training_fields.specs.Bins.{carrier_in};
 ghost use Rattle.training_fields.specs.Bounds.{AreSamplesWithin};
 ghost use Rattle.training_fields.specs.Nearness.{AreNearPlain};
 ghost use Rattle.symbol_builder.specs.Carriers.{pilot_at, pilot_sign_of, plain_symbol, sent_symbol, symbol_bin};
-ghost use Rattle.symbol_builder.specs.Points.{bits_per_point, points_of};
+ghost use Rattle.symbol_builder.specs.Points.{points_of};
 
 /// The bin of the carrier in a bin is that bin, and the carrier in the bin of a carrier is that carrier, for the bins
 /// below 64 and the carriers from -32 to 31 (own).
@@ -43,7 +44,7 @@ pub fn bins_of_a_symbol()
 /// No component of the points of a symbol's bits is larger than 700 in size (own).
 pub fn sizes_of_points()
     ensures { (modulation : Modulation) (bits : List ℕ) → AreBits bits
-        → 48 * bits_per_point modulation ≤ length bits → AreWithin 700 (points_of modulation bits) }
+        → 48 * bits_of_modulation modulation ≤ length bits → AreWithin 700 (points_of modulation bits) }
 {
     constellations::laws::sizes_of_axes();
 }

@@ -7,10 +7,10 @@ ghost use Rattle.fixed_complex.specs.Pairs.{IsWithin};
 ghost use Rattle.constellations.specs.Points.{point_of};
 ghost use Rattle.butterfly64.specs.Bounds.{AreWithin};
 ghost use Rattle.rate_table.specs.declared.Rate.{Rate};
-ghost use Rattle.rate_table.specs.Table.{row_of};
-ghost use Rattle.rate_table.specs.Symbols.{symbol_count};
+ghost use Rattle.rate_table.specs.Table.{bits_of_modulation, row_of};
+ghost use Rattle.rate_table.specs.Symbols.{IsLength, symbol_count};
 ghost use Rattle.symbol_builder.specs.Carriers.{polarity_of};
-ghost use Rattle.symbol_builder.specs.Points.{bits_per_point, point_at, points_of};
+ghost use Rattle.symbol_builder.specs.Points.{point_at, points_of};
 
 use constellations::point;
 use fixed_complex::Cx;
@@ -32,8 +32,7 @@ const SYMBOL_SAMPLES: u32 = 80;
 /// How many samples the frame of a PSDU of so many octets, 1 to 4095, has at a rate: 400 and 80 for each DATA symbol
 /// (IEEE Std 802.11-2012, 18.3.2.1). Takes no memory.
 pub fn frame_len(rate: Rate, length: u16) -> u32
-    requires some { 1 ≤ length }
-    requires most { length ≤ 4095 }
+    requires octets { IsLength length }
     ensures { result ≡ 400 + 80 * symbol_count (row_of rate).field_bits length }
 {
     HEAD_SAMPLES + SYMBOL_SAMPLES * rate.symbols(length)
@@ -48,7 +47,7 @@ pub fn symbol_points(modulation: Modulation, bits: &[u8; 288]) -> [Cx; 48]
         → result ≡ points_of modulation (take (row_of rate).coded_bits bits.now) }
     ensures within { AreWithin 700 result }
 {
-    let width = bits_per_point(modulation);
+    let width = modulation.bits_per_carrier();
     let mut points = [Cx { re: 0, im: 0 }; 48];
     for d in 0..48 {
         points[d] = point_of_bits(modulation, &bits[width * d..width * d + width]);
@@ -59,26 +58,13 @@ pub fn symbol_points(modulation: Modulation, bits: &[u8; 288]) -> [Cx; 48]
 // The point of the N_BPSC bits of a carrier.
 fn point_of_bits(modulation: Modulation, bits: &[u8]) -> Cx
     requires bits { AreBits bits.now }
-    requires width { length bits.now ≡ bits_per_point modulation }
+    requires width { length bits.now ≡ bits_of_modulation modulation }
     ensures point { result ≡ point_of modulation bits.now }
     ensures within { IsWithin 700 result }
 {
     let mut entries = [0; 6];
     entries[..bits.len()].copy_from_slice(bits);
     point(modulation, &entries)
-}
-
-// N_BPSC.
-fn bits_per_point(modulation: Modulation) -> usize
-    ensures value { result ≡ bits_per_point modulation }
-    ensures most { result ≤ 6 }
-{
-    match modulation {
-        Modulation::Bpsk => 1,
-        Modulation::Qpsk => 2,
-        Modulation::Qam16 => 4,
-        Modulation::Qam64 => 6,
-    }
 }
 
 /// p_n, the polarity of the pilots of symbol n, with period 127: 1 or -1 (IEEE Std 802.11-2012, 18.3.5.10). SIGNAL has

@@ -4,9 +4,9 @@ use Rattle.std.specs.Prelude.{ℕ, ◌+◌, ◌*◌, ◌==◌, ◌≤◌, List, 
 use Rattle.std.specs.List.{range_with_len}
 use Rattle.bit_lists.specs.Bits.{AreBits}
 use Rattle.rate_table.specs.declared.CodeRate.{CodeRate}
+use Rattle.rate_table.specs.Table.{flip_bound_of}
 use Rattle.puncture_map.specs.Kept.{is_kept, kept_count, kept_places}
 use Rattle.survivor_memory.specs.Nearest.{IsClosed}
-use Rattle.kept_weights.specs.Decisions.{repaired_changes}
 use Rattle.kept_weights.specs.Weights.{distance_over, kept_code}
 use Rattle.viterbi_lanes.specs.declared.Mark.{Mark}
 use Rattle.viterbi_lanes.specs.declared.Mark.TheVariants.{Zero, One, Absent}
@@ -35,4 +35,4 @@ changes rate steps u decisions = distance_over (kept_count rate steps) (kept_cod
 pub record AreNearlyKeptCode (rate : CodeRate) (steps : ℕ) (u decisions : List ℕ) : Type 0 where
   pub bits : AreBits decisions
   pub closed : IsClosed steps u
-  pub few : changes rate steps u decisions ≤ repaired_changes rate
+  pub few : changes rate steps u decisions ≤ flip_bound_of rate

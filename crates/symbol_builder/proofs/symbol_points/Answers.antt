@@ -14,7 +14,7 @@ loop-d-preserved c =
       points =
           below_more _ _
           (λ k lt. let other : k ≢ c.loop-d.d = omega arith in rw get_or-set_other (before.points k lt))
-          (rw get_or-set_same (c.point_of_bits.ensures.point ∙ group_is c.args.modulation c.args.bits.now c.bits_per_point-width.result c.loop-d.d c.bits_per_point-width.ensures.value));
+          (rw get_or-set_same (c.point_of_bits.ensures.point ∙ group_is c.args.modulation c.args.bits.now c.bits_per_carrier-width.result c.loop-d.d c.bits_per_carrier-width.ensures.value));
       within =
           below_more _ _
           (λ k lt. let other : k ≢ c.loop-d.d = omega arith in rw get_or-set_other (before.within k lt))
