@@ -1,6 +1,6 @@
 -- The places that differ, counted in parts.
 use Rattle.std.proofs.Common.{◌≡◌, ℕ, zero, suc, ◌+◌, ◌≤◌, List, [], ◌∷◌, length, take, drop, cond, nat_eq, Bool, true, false, refl, arith}
-use Rattle.lane_kernels.specs.Kernels.{differences_of}
+use Rattle.byte_lanes.specs.Differences.{differences_of}
 
 -- with nothing to compare with, none differ
 none : (xs : List ℕ) → differences_of xs [] ≡ 0
@@ -14,16 +14,3 @@ differences_of-split zero a b = omega arith
 differences_of-split (suc n) [] ys = omega arith
 differences_of-split (suc n) (x ∷ xs) [] = omega (arith, none (drop n xs))
 differences_of-split (suc n) (x ∷ xs) (y ∷ ys) = let rest = differences_of-split n xs ys in omega (arith, rest)
-
-one_or_none : (t : Bool) → cond t 0 1 ≤ 1
-one_or_none true = omega arith
-one_or_none false = omega arith
-
-pub differences_of-le : (a b : List ℕ) → differences_of a b ≤ length a
-unfolding differences_of
-differences_of-le [] ys = omega arith
-differences_of-le (x ∷ xs) [] = omega arith
-differences_of-le (x ∷ xs) (y ∷ ys) =
-    let rest = differences_of-le xs ys in
-    let first = one_or_none (nat_eq x y) in
-    omega (arith, rest, first)

@@ -1,6 +1,6 @@
 -- Octets from their bits, and back.
 use Rattle.std.proofs.Common.{◌≡◌, ℕ, zero, suc, ◌+◌, ◌*◌, ◌/◌, ◌%◌, ◌<◌, ◌≤◌, Bool, true, false, ◌&&◌, nat_eq, List, [], ◌∷◌, ◌++◌, length, map, get_or, take, drop, append-nil, length-append, ap, sym, ◌∙◌, refl, arith, lit<, inl, inr}
-use Rattle.std.proofs.lemmas.Bool.{cases_eq, eqb-true}
+use Rattle.std.proofs.lemmas.Bool.{agree_below_at, eqb-true}
 use Rattle.std.proofs.lemmas.List.{ext_get_or}
 use Rattle.std.proofs.lemmas.List.FromFn.{map-range_with_len_more, length-map-range_with_len, get_or-map-range_with_len}
 use Rattle.std.proofs.lemmas.List.{get_or-take, get_or-drop, length-take-le, length-drop}
@@ -82,27 +82,10 @@ length-bits_of_octets (x ∷ xs) =
     ∙ length-append (bits_of_octet x) (bits_of_octets xs)
     ∙ (let rest = length-bits_of_octets xs in omega (arith, rest))
 
--- a test passes at each place below n
-unfoldable passes_below : (ℕ → Bool) → ℕ → Bool
-passes_below p zero = true
-passes_below p (suc n) = p n && passes_below p n
-
-both_of : (x rest : Bool) → (x && rest) ≡ true → (x ≡ true) × (rest ≡ true)
-both_of true rest h = (refl, h)
-both_of false rest h = cc
-
-passes_at : (p : ℕ → Bool) (n : ℕ) → passes_below p n ≡ true → (k : ℕ) → k < n → p k ≡ true
-unfolding passes_below
-passes_at p zero h k lt = absurd (omega arith)
-passes_at p (suc n) h k lt =
-    let both = both_of (p n) (passes_below p n) h in
-    elim (cases_eq k n) [ inl same ↦ rw same both.0 | inr other ↦ passes_at p n both.1 k (omega arith) ]
-
 -- an octet is the sum of its bits
 sum_of_bits : (o : ℕ) → o < 256 → bit_at o 0 + 2 * bit_at o 1 + 4 * bit_at o 2 + 8 * bit_at o 3 + 16 * bit_at o 4 + 32 * bit_at o 5 + 64 * bit_at o 6 + 128 * bit_at o 7 ≡ o
-unfolding passes_below
 sum_of_bits o lt =
-    eqb-true _ _ (passes_at (λ o. nat_eq (bit_at o 0 + 2 * bit_at o 1 + 4 * bit_at o 2 + 8 * bit_at o 3 + 16 * bit_at o 4 + 32 * bit_at o 5 + 64 * bit_at o 6 + 128 * bit_at o 7) o) 256 refl o lt)
+    eqb-true _ _ (agree_below_at (λ o. nat_eq (bit_at o 0 + 2 * bit_at o 1 + 4 * bit_at o 2 + 8 * bit_at o 3 + 16 * bit_at o 4 + 32 * bit_at o 5 + 64 * bit_at o 6 + 128 * bit_at o 7) o) (λ o. true) 256 o refl lt)
 
 -- bit i of octet k
 bit_of_octets : (octets : List ℕ) (k i : ℕ) → k < length octets → i < 8 → get_or (bits_of_octets octets) (8 * k + i) 0 ≡ bit_at (get_or octets k 0) i

@@ -1,8 +1,13 @@
-//! What holds of octets and of texts of bits. Its functions do nothing: what each ensures is the law.
+//! What holds of bits, of octets and of texts of bits. Its functions do nothing: what each ensures is the law.
 
-ghost use Rattle.std.specs.Prelude.{◌≡◌, ◌⊎◌, ◌%◌, ℕ, List, length};
-ghost use Rattle.bit_lists.specs.Bits.{AreBits, AreOctets, bits_of_octets, octets_of_bits};
+ghost use Rattle.std.specs.Prelude.{◌≡◌, ◌⊎◌, ◌%◌, ℕ, List, length, slice_index};
+ghost use Rattle.bit_lists.specs.Bits.{AreBits, AreOctets, IsBit, bits_of_octets, octets_of_bits};
 ghost use Rattle.bit_lists.specs.Text.{IsBadPlace, IsTextOf, text_of_bits};
+
+/// An entry of a list of bits is a bit, and so is what is read past its end, which is 0 (own).
+pub fn entries_of_bits()
+    ensures { (bits : List ℕ) (place : ℕ) → AreBits bits → IsBit (slice_index bits place) }
+{}
 
 /// Octets are those of their bits, and bits, eight by eight, those of their octets (own).
 pub fn octets_and_bits()

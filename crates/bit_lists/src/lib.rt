@@ -5,11 +5,11 @@ ghost use Rattle.std.specs.Prelude.{◌≡◌, ◌≢◌, ◌⊎◌, ℕ, List, 
 ghost use Rattle.bit_lists.specs.Bits.{AreBits, AreOctets, IsBit, bits_of_octet, bits_of_octets, octet_at, octets_of_bits};
 ghost use Rattle.bit_lists.specs.Text.{IsBadPlace, IsCharacter, IsTextOf, text_of_bits};
 ghost use Rattle.bit_lists.specs.declared.TextFault.TheVariants.{NoMemory};
-ghost use Rattle.lane_kernels.specs.Kernels.{differences_of};
+ghost use Rattle.byte_lanes.specs.Differences.{differences_of};
 
 pub mod laws;
 
-use lane_kernels::differences;
+use byte_lanes::differences;
 use std::alloc::{AllocError, Global};
 use std::marker::Model;
 use thiserror::Error;

@@ -3,7 +3,6 @@ pub mod Totals
 pub mod Parts
 pub mod Wholes
 pub mod Widening
-pub mod ByteMasks
 pub mod Scans
 pub mod Holding
 pub mod Storing

@@ -50,9 +50,3 @@ unfoldable pub held_sums : List Sample → List Sample → List Sample
 held_sums [] ys = []
 held_sums (x ∷ xs) [] = []
 held_sums (x ∷ xs) (y ∷ ys) = held_sum x y ∷ held_sums xs ys
-
--- how many places of two lists of bytes differ
-unfoldable pub differences_of : List ℕ → List ℕ → ℕ
-differences_of [] ys = 0
-differences_of (x ∷ xs) [] = 0
-differences_of (x ∷ xs) (y ∷ ys) = (if x == y then 0 else 1) + differences_of xs ys

@@ -4,9 +4,10 @@
 
 ghost use Rattle.std.specs.Prelude.{◌≡◌, ℕ, ◌+◌, ◌*◌, ◌/◌, ◌^◌, ◌<◌, ◌≤◌, false, length, take, nat_lt, ℤ, pos, ◌+ℤ◌, ◌-ℤ◌, ◌*ℤ◌, unsigned_abs};
 ghost use Rattle.fixed_complex.specs.Pairs.{IsWithin};
-ghost use Rattle.lane_kernels.specs.Kernels.{differences_of, dot_of, energy_of, first_loud_of, held, held_sum, held_sums, is_loud, pair_of, power_of, product_of};
+ghost use Rattle.lane_kernels.specs.Kernels.{dot_of, energy_of, first_loud_of, held, held_sum, held_sums, is_loud, pair_of, power_of, product_of};
 ghost use Rattle.lane_kernels.specs.Lanes.{AreOf16Bits, AreWithin, HoldsSums, eight, number_at, sample_at, total_below, total_of};
 
+pub use byte_lanes::differences;
 use fixed_complex::{Cx, Sample, add, conj, mul};
 use std::simd::prelude::*;
 
@@ -66,22 +67,6 @@ pub fn add_saturating(a: &mut [Sample], b: &[Sample])
         add_eight(a, b, 8 * k);
     }
     add_rest(a, b, 8 * whole);
-}
-
-/// How many places of two equally long slices of at most 2^24 bytes differ (own). The count is at most the length, so
-/// it fits.
-pub fn differences(a: &[u8], b: &[u8]) -> usize
-    requires short { length a.now ≤ 2 ^ 24 }
-    requires long { length a.now ≡ length b.now }
-    ensures { result ≡ differences_of a.now b.now }
-{
-    let mut differences = lane_differences(a, b);
-    for n in a.len() / 16 * 16..a.len() {
-        if a[n] != b[n] {
-            differences += 1;
-        }
-    }
-    differences
 }
 
 // How many whole chunks at the front have no loud sample.
@@ -180,35 +165,6 @@ fn is_loud(sample: Sample) -> bool
     ensures { result ≡ is_loud sample }
 {
     sample.i.unsigned_abs() > 256 || sample.q.unsigned_abs() > 256
-}
-
-// How many places of the whole chunks differ.
-fn lane_differences(a: &[u8], b: &[u8]) -> usize
-    requires short { length a.now ≤ 2 ^ 24 }
-    requires long { length a.now ≡ length b.now }
-    ensures count { result
-        ≡ differences_of (take (length a.now / 16 * 16) a.now) (take (length a.now / 16 * 16) b.now) }
-    ensures within { result ≤ length a.now / 16 * 16 }
-{
-    let mut differences = 0;
-    for k in 0..a.len() / 16 {
-        differences += differing(&a[16 * k..16 * k + 16], &b[16 * k..16 * k + 16]) as usize;
-    }
-    differences
-}
-
-// How many of sixteen places differ.
-#[inline(always)]
-fn differing(a: &[u8], b: &[u8]) -> u32
-    requires a { length a.now ≡ 16 }
-    requires b { length b.now ≡ 16 }
-    ensures count { result ≡ differences_of a.now b.now }
-    ensures within { result ≤ 16 }
-{
-    u8x16::from_slice(a)
-        .simd_ne(u8x16::from_slice(b))
-        .to_bitmask()
-        .count_ones()
 }
 
 // The square of a sample's size.
@@ -443,17 +399,6 @@ mod tests {
         samples
     }
 
-    // Bytes from 0 to 3.
-    fn bytes(seed: u64) -> [u8; 67] {
-        let mut bytes = [0; 67];
-        let mut state = seed;
-        for n in 0..67 {
-            state = next(state);
-            bytes[n] = ((state >> 40) % 4) as u8;
-        }
-        bytes
-    }
-
     fn plain_dot(a: &[Sample], b: &[Sample]) -> Cx {
         let mut dot = Cx { re: 0, im: 0 };
         for (x, y) in a.iter().zip(b) {
@@ -487,16 +432,6 @@ mod tests {
 
     fn plain_held(x: i16, y: i16) -> i32 {
         (i32::from(x) + i32::from(y)).clamp(-32768, 32767)
-    }
-
-    fn plain_differences(a: &[u8], b: &[u8]) -> usize {
-        let mut differences = 0usize;
-        for (x, y) in a.iter().zip(b) {
-            if x != y {
-                differences = differences.wrapping_add(1);
-            }
-        }
-        differences
     }
 
     #[test]
@@ -533,14 +468,6 @@ mod tests {
                     assert!(rt; sums[k] == a[k]);
                 }
             }
-        }
-    }
-
-    #[test]
-    fn differences_of_each_length(rt: HostRuntime) {
-        let (a, b) = (bytes(5), bytes(6));
-        for n in 0..68 {
-            assert!(rt; differences(&a[..n], &b[..n]) == plain_differences(&a[..n], &b[..n]));
         }
     }
 }

@@ -1,8 +1,8 @@
 use Rattle.std.proofs.Common.{◌≡◌, length, refl, arith}
 use Rattle.std.proofs.lemmas.Bool.Decides.{nat_tests}
-use Rattle.lane_kernels.proofs.ByteMasks.{differences-one, take-whole}
-use Rattle.lane_kernels.proofs.differences.Goals.{then-a-n, else-a-n}
-use Rattle.lane_kernels.proofs.differences.Goals as goal
+use Rattle.byte_lanes.proofs.ByteMasks.{differences-one, take-whole}
+use Rattle.byte_lanes.proofs.differences.Goals.{then-a-n, else-a-n}
+use Rattle.byte_lanes.proofs.differences.Goals as goal
 
 pub loop-n-init : goal.loop-n-init
 loop-n-init c = record { so_far = c.lane_differences-differences.ensures.count; within = c.lane_differences-differences.ensures.within }
@@ -16,7 +16,7 @@ loop-n-preserved c =
       | else-a-n w ↦ record { so_far = grind (arith, nat_tests); within = omega arith }
     ]
 
-pub returns : goal.returns
-returns c =
+pub returns-clause-count : goal.returns-clause-count
+returns-clause-count c =
     let whole : c.loop-n.n ≡ length c.args.a.now = omega arith in
     rw (whole, take-whole c.args.a.now (length c.args.a.now) refl, take-whole c.args.b.now (length c.args.a.now) (omega arith)) at c.loop-n.invariant.so_far

@@ -1,6 +1,6 @@
 use Rattle.std.proofs.Common.{◌≡◌, ◌+◌, ◌*◌, refl, arith}
-use Rattle.lane_kernels.proofs.ByteMasks.{differences-more, differences-none}
-use Rattle.lane_kernels.proofs.lane_differences.Goals as goal
+use Rattle.byte_lanes.proofs.ByteMasks.{differences-more, differences-none}
+use Rattle.byte_lanes.proofs.lane_differences.Goals as goal
 
 pub loop-k-init : goal.loop-k-init
 loop-k-init c = record { so_far = differences-none; within = omega arith }

@@ -9,7 +9,7 @@ use Rattle.std.specs.List.{slice_range}
 use borrow.Rule.Simd.Lanes.{act2}
 use borrow.Table.Row.{s_int}
 use mir.Syntax.{mask, ne}
-use Rattle.lane_kernels.specs.Kernels.{differences_of}
+use Rattle.byte_lanes.specs.Differences.{differences_of}
 
 abbrev differ : ℕ → ℕ → ℕ
 differ = act2 (mask ne) (s_int w8) (s_int w8) (s_int w8)

@@ -1,6 +1,6 @@
 use Rattle.std.proofs.Common.{◌≡◌, ◌*◌, ◌≤◌, take}
-use Rattle.lane_kernels.specs.Kernels.{differences_of}
-use Rattle.lane_kernels.proofs.lane_differences.Given as goal
+use Rattle.byte_lanes.specs.Differences.{differences_of}
+use Rattle.byte_lanes.proofs.lane_differences.Given as goal
 
 abbrev pub invariant-loop-k : goal.invariant-loop-k
 invariant-loop-k l = record {

@@ -1,6 +1,6 @@
 use Rattle.std.proofs.Common.{arith}
-use Rattle.lane_kernels.proofs.ByteMasks.{mask_counts, take-whole, differences-le}
-use Rattle.lane_kernels.proofs.differing.Goals as goal
+use Rattle.byte_lanes.proofs.ByteMasks.{mask_counts, take-whole, differences-le}
+use Rattle.byte_lanes.proofs.differing.Goals as goal
 
 pub returns-clause-count : goal.returns-clause-count
 returns-clause-count c =
