@@ -1,5 +1,5 @@
--- What a port tells of its bytes (own): the bytes that a source has left, and those that a sink has taken. A port
--- that tells nothing has `None`, and goes on telling nothing.
+-- What a port tells of its bytes (own): the bytes that a source has left, and those that a sink has
+-- taken. A port that tells nothing has `None`, and goes on telling nothing.
 use Rattle.std.specs.Prelude.{ℕ, ◌≤◌, ◌≡◌, List, [], ◌++◌, length, take, Option, Some, None, IfSome}
 
 -- a source gave a piece: it was the front of what was left, and the rest is left
@@ -15,11 +15,13 @@ GivesAtMost most before after = (piece : List ℕ) × (length piece ≤ most) ×
 
 -- a source gave just this many bytes
 abbrev pub GivesExactly : ℕ → Option (List ℕ) → Option (List ℕ) → Type 0
-GivesExactly count before after = (piece : List ℕ) × (length piece ≡ count) × Gives before piece after
+GivesExactly count before after =
+    (piece : List ℕ) × (length piece ≡ count) × Gives before piece after
 
 -- a source gave a piece, which now stands behind the bytes that were there
 abbrev pub GivesBehind : Option (List ℕ) → List ℕ → Option (List ℕ) → List ℕ → Type 0
-GivesBehind left bytes left' bytes' = (piece : List ℕ) × (bytes' ≡ bytes ++ piece) × Gives left piece left'
+GivesBehind left bytes left' bytes' =
+    (piece : List ℕ) × (bytes' ≡ bytes ++ piece) × Gives left piece left'
 
 -- nothing is left of what a source tells
 abbrev pub IsAtEnd : Option (List ℕ) → Type 0

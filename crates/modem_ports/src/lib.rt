@@ -1,6 +1,12 @@
 //! The ports of the modem: where bytes come from and go to, with counts of faults, and whole reads and writes.
 #![tactic(auto)]
 
+ghost use Rattle.std.specs.Prelude.{ℕ, ◌<◌, List, length, Option};
+ghost use Rattle.modem_ports.specs.Calls.{ReadStep, WriteStep};
+
+use thiserror::Error;
+
+mod counts;
 mod memory;
 mod standard;
 mod steps;
@@ -8,14 +14,9 @@ mod steps;
 mod tests;
 mod whole;
 
-ghost use Rattle.std.specs.Prelude.{◌≡◌, ℕ, ◌<◌, ◌≤◌, List, length, take, Option, IfOk, OnErr};
-ghost use Rattle.modem_ports.specs.Counts.{Rose, count_end};
-ghost use Rattle.modem_ports.specs.Told.{Gives, IsAtEnd, Takes};
-
 pub use memory::{MemSink, MemSource};
 pub use standard::{StdSink, StdSource};
 pub use steps::Steps;
-use thiserror::Error;
 pub use whole::{MOST_INPUT, ReadAllFault, read_all, write_all};
 
 /// The answer of a port that failed (own).
@@ -36,13 +37,8 @@ pub trait Source {
     /// faults rose.
     fn read(&mut self, buf: &mut [u8]) -> Result<usize, Failed>
         requires { 0 < length buf.old }
-        ensures within { IfOk result (λ n. n ≤ length buf.old) }
-        ensures given { IfOk result (λ n. Gives (left self.old) (take n buf.new) (left self.new)) }
-        ensures end { result ≡ Ok 0 → IsAtEnd (left self.old) }
-        ensures failed { OnErr result (Rose (faults self.old) (faults self.new)) }
-        ensures kept { OnErr result (left self.new ≡ left self.old) }
-        ensures counted { faults self.old ≤ faults self.new }
-        ensures stands { faults self.old ≡ count_end → faults self.new ≡ count_end };
+        ensures step { ReadStep (length buf.old) (left self.old) (left self.new)
+            (faults self.old) (faults self.new) buf.new result };
 }
 
 /// Where bytes go to (own).
@@ -57,11 +53,6 @@ pub trait Sink {
     /// `Failed` takes nothing, and comes only where the count of faults rose.
     fn write(&mut self, piece: &[u8]) -> Result<usize, Failed>
         requires { 0 < length piece.now }
-        ensures some { IfOk result (λ n. 0 < n) }
-        ensures within { IfOk result (λ n. n ≤ length piece.now) }
-        ensures took { IfOk result (λ n. Takes (taken self.old) (take n piece.now) (taken self.new)) }
-        ensures failed { OnErr result (Rose (faults self.old) (faults self.new)) }
-        ensures kept { OnErr result (taken self.new ≡ taken self.old) }
-        ensures counted { faults self.old ≤ faults self.new }
-        ensures stands { faults self.old ≡ count_end → faults self.new ≡ count_end };
+        ensures step { WriteStep piece.now (taken self.old) (taken self.new)
+            (faults self.old) (faults self.new) result };
 }

@@ -1,18 +1,19 @@
 //! Ports over memory, whose calls fail where that was asked for.
 ghost use Rattle.std.specs.Prelude.{◌≡◌, ◌↔◌, ◌⊎◌, ◌<◌, ◌≤◌, ◌-◌, ◌++◌, [], length, take, drop, min, Contains, IfOk, OnErr, IsErr, IsTrue};
-ghost use Rattle.modem_ports.specs.Counts.{Rose, count_end, raised_by};
-ghost use Rattle.modem_ports.specs.Told.{Gives, IsAtEnd, Takes};
+ghost use Rattle.modem_ports.specs.Calls.{ReadStep, WriteStep};
+ghost use Rattle.modem_ports.specs.Counts.{count_end, raised_by};
 
+use crate::counts::Count;
 use crate::{Failed, Sink, Source};
 use std::alloc::{AllocError, Global};
 use std::marker::Model;
 
-/// The calls of a port: those that fail, how many there were, and how many failed.
+// The calls of a port: those that fail, how many there were, and how many failed.
 #[derive(Debug, Drop)]
 struct Calls {
     failing: Vec<u64>,
-    number: u64,
-    faults: u64,
+    number: Count,
+    faults: Count,
 }
 
 impl Calls {
@@ -23,27 +24,28 @@ impl Calls {
     {
         Ok(Calls {
             failing: failing.to_vec(alloc)?,
-            number: 0,
-            faults: 0,
+            number: Count::new(),
+            faults: Count::new(),
         })
     }
 
-    /// Numbers one more call, and answers whether it is to fail.
+    // Numbers one more call, and answers whether it is to fail.
     fn begin(&mut self) -> bool
         ensures number { self.new ≡ record self.old { number = raised_by 1 self.old.number } }
-        ensures fails { IsTrue result ↔ Contains self.old.failing.items (raised_by 1 self.old.number) }
+        ensures fails { IsTrue result
+            ↔ Contains self.old.failing.items (raised_by 1 self.old.number) }
     {
-        self.number = self.number.saturating_add(1);
-        self.failing.contains(&self.number)
+        self.number.raise();
+        self.failing.contains(&self.number.value())
     }
 
-    /// Counts one more fault, and answers it.
+    // Counts one more fault, and answers it.
     fn fault(&mut self) -> Failed
         ensures faults { self.new ≡ record self.old { faults = raised_by 1 self.old.faults } }
         ensures counted { self.old.faults ≤ self.new.faults }
         ensures stands { self.old.faults ≡ count_end → self.new.faults ≡ count_end }
     {
-        self.faults = self.faults.saturating_add(1);
+        self.faults.raise();
         Failed
     }
 }
@@ -117,18 +119,16 @@ impl Source for MemSource {
 
     fn read(&mut self, buf: &mut [u8]) -> Result<usize, Failed>
         requires { 0 < length buf.old }
-        ensures within { IfOk result (λ n. n ≤ length buf.old) }
-        ensures given { IfOk result (λ n. Gives (Some self.old.left) (take n buf.new) (Some self.new.left)) }
-        ensures end { result ≡ Ok 0 → IsAtEnd (Some self.old.left) }
-        ensures failed { OnErr result (Rose self.old.faults self.new.faults) }
-        ensures kept { OnErr result (Some self.new.left ≡ Some self.old.left) }
-        ensures counted { self.old.faults ≤ self.new.faults }
-        ensures stands { self.old.faults ≡ count_end → self.new.faults ≡ count_end }
+        ensures step { ReadStep (length buf.old) (Some self.old.left) (Some self.new.left)
+            self.old.faults self.new.faults buf.new result }
         ensures fails { IsErr result ↔ Contains self.old.failing (raised_by 1 self.old.calls) }
         ensures count { IfOk result
             (λ n. n ≡ min self.old.most (min (length buf.old) (length self.old.left))) }
         ensures next { IfOk result
-            (λ n. self.new ≡ record self.old { left = drop n self.old.left; calls = raised_by 1 self.old.calls }) }
+            (λ n. self.new ≡ record self.old {
+              left = drop n self.old.left;
+              calls = raised_by 1 self.old.calls;
+            }) }
         ensures fault { OnErr result
             (self.new ≡ record self.old {
               calls = raised_by 1 self.old.calls;
@@ -176,7 +176,8 @@ impl Model for MemSink {
       faults = s.calls.faults;
     } };
 
-    ghost invariant = { λ s. (vec_len s.taken ≤ s.room) × (s.room ≤ vec_capacity s.taken) × (1 ≤ s.most) };
+    ghost invariant = { λ s.
+        (vec_len s.taken ≤ s.room) × (s.room ≤ vec_capacity s.taken) × (1 ≤ s.most) };
 }
 
 impl MemSink {
@@ -226,17 +227,14 @@ impl Sink for MemSink {
 
     fn write(&mut self, piece: &[u8]) -> Result<usize, Failed>
         requires { 0 < length piece.now }
-        ensures some { IfOk result (λ n. 0 < n) }
-        ensures within { IfOk result (λ n. n ≤ length piece.now) }
-        ensures took { IfOk result (λ n. Takes (Some self.old.taken) (take n piece.now) (Some self.new.taken)) }
-        ensures failed { OnErr result (Rose self.old.faults self.new.faults) }
-        ensures kept { OnErr result (Some self.new.taken ≡ Some self.old.taken) }
-        ensures counted { self.old.faults ≤ self.new.faults }
-        ensures stands { self.old.faults ≡ count_end → self.new.faults ≡ count_end }
+        ensures step { WriteStep piece.now (Some self.old.taken) (Some self.new.taken)
+            self.old.faults self.new.faults result }
         ensures fails { IsErr result
-            ↔ (Contains self.old.failing (raised_by 1 self.old.calls) ⊎ (self.old.room ≤ length self.old.taken)) }
+            ↔ (Contains self.old.failing (raised_by 1 self.old.calls)
+            ⊎ (self.old.room ≤ length self.old.taken)) }
         ensures count { IfOk result
-            (λ n. n ≡ min self.old.most (min (length piece.now) (self.old.room - length self.old.taken))) }
+            (λ n. n ≡ min self.old.most
+            (min (length piece.now) (self.old.room - length self.old.taken))) }
         ensures next { IfOk result
             (λ n. self.new ≡ record self.old {
               taken = self.old.taken ++ take n piece.now;

@@ -1,8 +1,9 @@
 //! Ports over std's readers and writers.
-ghost use Rattle.std.specs.Prelude.{◌≡◌, ◌<◌, ◌≤◌, None, length, take, IfOk, OnOk, OnErr};
-ghost use Rattle.modem_ports.specs.Counts.{Rose, count_end, raised_by};
-ghost use Rattle.modem_ports.specs.Told.{Gives, IsAtEnd, Takes};
+ghost use Rattle.std.specs.Prelude.{◌≡◌, ◌<◌, ◌≤◌, None, length, IfOk, OnOk, OnErr};
+ghost use Rattle.modem_ports.specs.Calls.{ReadStep, WriteStep};
+ghost use Rattle.modem_ports.specs.Counts.{raised_by};
 
+use crate::counts::Count;
 use crate::{Failed, Sink, Source};
 use std::io;
 use std::io::{ErrorKind, Read, Write};
@@ -14,7 +15,7 @@ use std::marker::Model;
 #[derive(Drop)]
 pub struct StdSource<R: Read> {
     reader: R,
-    faults: u64,
+    faults: Count,
 }
 
 impl<R: Read> Model for StdSource<R> {
@@ -30,7 +31,10 @@ impl<R: Read> StdSource<R> {
     pub fn new(reader: R) -> StdSource<R>
         ensures { result ≡ 0 }
     {
-        StdSource { reader, faults: 0 }
+        StdSource {
+            reader,
+            faults: Count::new(),
+        }
     }
 }
 
@@ -41,19 +45,14 @@ impl<R: Read> Source for StdSource<R> {
 
     fn read(&mut self, buf: &mut [u8]) -> Result<usize, Failed>
         requires { 0 < length buf.old }
-        ensures within { IfOk result (λ n. n ≤ length buf.old) }
-        ensures given { IfOk result (λ n. Gives None (take n buf.new) None) }
-        ensures end { result ≡ Ok 0 → IsAtEnd None }
-        ensures failed { OnErr result (Rose self.old self.new) }
-        ensures counted { self.old ≤ self.new }
-        ensures stands { self.old ≡ count_end → self.new ≡ count_end }
+        ensures step { ReadStep (length buf.old) None None self.old self.new buf.new result }
         ensures raised { OnErr result (self.new ≡ raised_by 1 self.old) }
         ensures unraised { OnOk result (self.new ≡ self.old) }
     {
         match self.reader.read(buf) {
             Ok(count) => Ok(count),
             Err(_) => {
-                self.faults = self.faults.saturating_add(1);
+                self.faults.raise();
                 Err(Failed)
             }
         }
@@ -67,7 +66,7 @@ impl<R: Read> Source for StdSource<R> {
 #[derive(Drop)]
 pub struct StdSink<W: Write> {
     writer: W,
-    faults: u64,
+    faults: Count,
 }
 
 impl<W: Write> Model for StdSink<W> {
@@ -83,7 +82,10 @@ impl<W: Write> StdSink<W> {
     pub fn new(writer: W) -> StdSink<W>
         ensures { result ≡ 0 }
     {
-        StdSink { writer, faults: 0 }
+        StdSink {
+            writer,
+            faults: Count::new(),
+        }
     }
 }
 
@@ -94,26 +96,21 @@ impl<W: Write> Sink for StdSink<W> {
 
     fn write(&mut self, piece: &[u8]) -> Result<usize, Failed>
         requires { 0 < length piece.now }
-        ensures some { IfOk result (λ n. 0 < n) }
-        ensures within { IfOk result (λ n. n ≤ length piece.now) }
-        ensures took { IfOk result (λ n. Takes None (take n piece.now) None) }
-        ensures failed { OnErr result (Rose self.old self.new) }
-        ensures counted { self.old ≤ self.new }
-        ensures stands { self.old ≡ count_end → self.new ≡ count_end }
+        ensures step { WriteStep piece.now None None self.old self.new result }
         ensures raised { OnErr result (self.new ≡ raised_by 1 self.old) }
         ensures unraised { OnOk result (self.new ≡ self.old) }
     {
         match write_through(&mut self.writer, piece) {
             Ok(count) => Ok(count),
             Err(_) => {
-                self.faults = self.faults.saturating_add(1);
+                self.faults.raise();
                 Err(Failed)
             }
         }
     }
 }
 
-/// Writes the front of a piece and flushes it, and answers how many bytes were taken, at least one.
+// Writes the front of a piece and flushes it, and answers how many bytes were taken, at least one.
 fn write_through<W: Write>(writer: &mut W, piece: &[u8]) -> io::Result<usize>
     ensures some { IfOk result (λ n. 0 < n) }
     ensures within { IfOk result (λ n. n ≤ length piece.now) }

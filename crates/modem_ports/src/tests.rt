@@ -71,14 +71,14 @@ fn what_a_sink_takes(rt: HostRuntime) -> Result<(), Fail> {
     Ok(())
 }
 
-/// A reader and writer that doesn't work.
+// A reader and writer that doesn't work.
 #[derive(Clone, Copy, Debug)]
 enum Fake {
-    /// Gives and takes nothing.
+    // Gives and takes nothing.
     Empty,
-    /// Fails at each call.
+    // Fails at each call.
     Broken,
-    /// Takes all, and fails where it is flushed.
+    // Takes all, and fails where it is flushed.
     Unflushed,
 }
 

@@ -9,6 +9,12 @@ use crate::{Failed, Sink, Source};
 use std::alloc::{AllocError, Global};
 use thiserror::Error;
 
+/// The most bytes of an input: those of 2^24 samples (own).
+pub const MOST_INPUT: usize = 67_108_864;
+
+// The most bytes that are asked of a source at once.
+const PIECE: usize = 4096;
+
 /// Why an input was not read whole (own).
 #[derive(Debug, Drop, Error)]
 pub enum ReadAllFault {
@@ -31,12 +37,6 @@ impl From<AllocError> for ReadAllFault {
     }
 }
 
-/// The most bytes of an input: those of 2^24 samples (own).
-pub const MOST_INPUT: usize = 67_108_864;
-
-/// The most bytes that are asked of a source at once.
-const PIECE: usize = 4096;
-
 /// Reads a source to the end of its input, of at most `limit` bytes (own). `limit` is at most [`MOST_INPUT`].
 ///
 /// `Ok` has exactly the told bytes that were left, and none are left afterwards. `Long` comes exactly where byte
@@ -48,7 +48,8 @@ pub fn read_all<S: Source>(
     limit: usize,
 ) -> Result<Vec<u8>, ReadAllFault>
     requires { limit ≤ most_input }
-    ensures whole { IfOk result (λ bytes. Gives (S.left source.old) bytes.items (S.left source.new)) }
+    ensures whole { IfOk result
+        (λ bytes. Gives (S.left source.old) bytes.items (S.left source.new)) }
     ensures end { IfOk result (λ _. IsAtEnd (S.left source.new)) }
     ensures within { IfOk result (λ bytes. length bytes.items ≤ limit) }
     ensures long { IsErrOf result ReadAllFault.Long
@@ -71,7 +72,7 @@ pub fn read_all<S: Source>(
     }
 }
 
-/// Reads one more piece behind `bytes`, and answers how long it is. It is empty only at the end of input.
+// Reads one more piece behind `bytes`, and answers how long it is. It is empty only at the end of input.
 fn read_piece<S: Source>(
     source: &mut S,
     bytes: &mut Vec<u8>,

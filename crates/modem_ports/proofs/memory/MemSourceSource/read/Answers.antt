@@ -1,9 +1,18 @@
-use Rattle.std.proofs.Common.{arith, ap, length, length-take, ◌≡◌}
+use Rattle.std.proofs.Common.{arith, ap, length, length-take, ◌≡◌, rules}
+use Rattle.std.proofs.lemmas.Grind.{common_steps}
 use Rattle.modem_ports.proofs.Pieces.{front-copied}
 use Rattle.modem_ports.proofs.memory.MemSourceSource.read.Goals as goal
 
-pub returns-clause-given : goal.returns-clause-given
-returns-clause-given c =
+pub returns-clause-step : goal.returns-clause-step
+returns-clause-step c =
     let copied = rw c.deref.ensures.value at c.copy_from_slice.ensures.after in
     let as_long : length c.copy_from_slice.new.self ≡ c.min-count.result = omega (arith, length-take c.min-count.result c.args.buf.now) in
-    front-copied _ _ _ _ _ _ _ (ap (λ s. s.left) c.self.view_is) copied as_long
+    record {
+      within = search rules;
+      given = front-copied _ _ _ _ _ _ _ (ap (λ s. s.left) c.self.view_is) copied as_long;
+      end = search (rules, common_steps);
+      failed = search rules;
+      kept = search rules;
+      counted = search rules;
+      stands = search rules;
+    }
