@@ -6,6 +6,7 @@ ghost use Rattle.modem_ports.specs.Counts.{Rose};
 ghost use Rattle.modem_ports.specs.Limits.{most_input};
 ghost use Rattle.modem_ports.specs.Told.{Gives, GivesAtMost, GivesExactly, IsAtEnd, Takes, TakesPrefix};
 ghost use Rattle.capture_files.specs.Captures.{AreSamples, IsSample, IsTorn, bytes_of_sample, bytes_of_samples};
+ghost use Rattle.capture_files.specs.Faults.{fault_of};
 ghost use Rattle.capture_files.specs.declared.CaptureFault.TheVariants.{NoMemory};
 
 use byteorder::{ByteOrder, LittleEndian};
@@ -17,6 +18,12 @@ use thiserror::Error;
 pub mod laws;
 #[cfg(test)]
 mod tests;
+
+// The bytes of a sample.
+const SAMPLE: usize = 4;
+
+// The bytes that are handed to a sink at once.
+const PIECE: usize = 4096;
 
 /// Why a capture was not read (own).
 #[derive(Debug, Drop, Error)]
@@ -43,11 +50,17 @@ impl From<AllocError> for CaptureFault {
     }
 }
 
-/// The bytes of a sample.
-const SAMPLE: usize = 4;
+impl From<ReadAllFault> for CaptureFault {
+    ghost from_gives = { λ fault capture. capture ≡ fault_of fault };
 
-/// The bytes that are handed to a sink at once.
-const PIECE: usize = 4096;
+    fn from(fault: ReadAllFault) -> CaptureFault {
+        match fault {
+            ReadAllFault::Long => CaptureFault::Long,
+            ReadAllFault::Failed => CaptureFault::Failed,
+            ReadAllFault::NoMemory(e) => CaptureFault::NoMemory(e),
+        }
+    }
+}
 
 /// Reads a capture to the end of its input: at most 2^24 samples, each I and then Q, signed numbers of 16 bits, the low
 /// byte first (own).
@@ -58,15 +71,18 @@ const PIECE: usize = 4096;
 /// source's count of faults rose in this call. `NoMemory` is free.
 pub fn read_capture<S: Source>(alloc: Global, source: &mut S) -> Result<Vec<Sample>, CaptureFault>
     ensures whole { IfOk result
-        (λ samples. Gives (S.left source.old) (bytes_of_samples samples.items) (S.left source.new)) }
+        (λ samples.
+        Gives (S.left source.old) (bytes_of_samples samples.items) (S.left source.new)) }
     ensures end { IfOk result (λ _. IsAtEnd (S.left source.new)) }
     ensures samples { IfOk result (λ samples. AreSamples samples.items) }
     ensures within { IfOk result (λ samples. length samples.items ≤ 2 ^ 24) }
     ensures torn { (bytes : ℕ) → IsErrOf result (CaptureFault.Torn bytes) → IsTorn bytes }
     ensures torn_after { (bytes : ℕ) → IsErrOf result (CaptureFault.Torn bytes)
         → GivesExactly bytes (S.left source.old) (S.left source.new) }
-    ensures torn_end { (bytes : ℕ) → IsErrOf result (CaptureFault.Torn bytes) → IsAtEnd (S.left source.new) }
-    ensures torn_within { (bytes : ℕ) → IsErrOf result (CaptureFault.Torn bytes) → bytes ≤ most_input }
+    ensures torn_end { (bytes : ℕ) → IsErrOf result (CaptureFault.Torn bytes)
+        → IsAtEnd (S.left source.new) }
+    ensures torn_within { (bytes : ℕ) → IsErrOf result (CaptureFault.Torn bytes)
+        → bytes ≤ most_input }
     ensures long { IsErrOf result CaptureFault.Long
         → GivesExactly (most_input + 1) (S.left source.old) (S.left source.new) }
     ensures failed { IsErrOf result CaptureFault.Failed
@@ -78,12 +94,7 @@ pub fn read_capture<S: Source>(alloc: Global, source: &mut S) -> Result<Vec<Samp
     ensures taken { GivesAtMost (most_input + 1) (S.left source.old) (S.left source.new) }
     ensures counted { S.faults source.old ≤ S.faults source.new }
 {
-    let bytes = match read_all(alloc, source, MOST_INPUT) {
-        Ok(bytes) => bytes,
-        Err(ReadAllFault::Long) => return Err(CaptureFault::Long),
-        Err(ReadAllFault::Failed) => return Err(CaptureFault::Failed),
-        Err(ReadAllFault::NoMemory(e)) => return Err(CaptureFault::NoMemory(e)),
-    };
+    let bytes = read_all(alloc, source, MOST_INPUT)?;
     if bytes.len() % SAMPLE != 0 {
         return Err(CaptureFault::Torn {
             bytes: bytes.len() as u32,
@@ -126,7 +137,8 @@ fn sample_of(bytes: &[u8]) -> Sample
 /// After `Ok` the told bytes are those before followed by all the samples' bytes. `Failed` comes only where the sink's
 /// count of faults rose in this call, and then the told bytes are those before followed by a prefix.
 pub fn write_samples<K: Sink>(samples: &[Sample], sink: &mut K) -> Result<(), Failed>
-    ensures ok { OnOk result (Takes (K.taken sink.old) (bytes_of_samples samples.now) (K.taken sink.new)) }
+    ensures ok { OnOk result
+        (Takes (K.taken sink.old) (bytes_of_samples samples.now) (K.taken sink.new)) }
     ensures failed { OnErr result (Rose (K.faults sink.old) (K.faults sink.new)) }
     ensures prefix { OnErr result
         (TakesPrefix (K.taken sink.old) (bytes_of_samples samples.now) (K.taken sink.new)) }
