@@ -38,95 +38,30 @@ flip_bound_of Half = 4
 flip_bound_of TwoThirds = 2
 flip_bound_of ThreeQuarters = 2
 
+-- a row by what the modulation and the code rate don't give
+abbrev pub row : ℕ → Modulation → CodeRate → ℕ → ℕ → ℕ → ℕ → Row
+row mbps modulation code_rate coded_bits field_bits pattern noise_bound = record {
+  mbps = mbps;
+  modulation = modulation;
+  code_rate = code_rate;
+  bits_per_carrier = bits_of_modulation modulation;
+  coded_bits = coded_bits;
+  field_bits = field_bits;
+  pattern = pattern;
+  noise_bound = noise_bound;
+  flip_bound = flip_bound_of code_rate;
+}
+
+-- the row of a rate
 abbrev pub row_of : Rate → Row
-row_of R6 = record {
-  mbps = 6;
-  modulation = Bpsk;
-  code_rate = Half;
-  bits_per_carrier = bits_of_modulation Bpsk;
-  coded_bits = 48;
-  field_bits = 24;
-  pattern = pattern_number 1 1 0 1;
-  noise_bound = 64;
-  flip_bound = flip_bound_of Half;
-}
-row_of R9 = record {
-  mbps = 9;
-  modulation = Bpsk;
-  code_rate = ThreeQuarters;
-  bits_per_carrier = bits_of_modulation Bpsk;
-  coded_bits = 48;
-  field_bits = 36;
-  pattern = pattern_number 1 1 1 1;
-  noise_bound = 64;
-  flip_bound = flip_bound_of ThreeQuarters;
-}
-row_of R12 = record {
-  mbps = 12;
-  modulation = Qpsk;
-  code_rate = Half;
-  bits_per_carrier = bits_of_modulation Qpsk;
-  coded_bits = 96;
-  field_bits = 48;
-  pattern = pattern_number 0 1 0 1;
-  noise_bound = 36;
-  flip_bound = flip_bound_of Half;
-}
-row_of R18 = record {
-  mbps = 18;
-  modulation = Qpsk;
-  code_rate = ThreeQuarters;
-  bits_per_carrier = bits_of_modulation Qpsk;
-  coded_bits = 96;
-  field_bits = 72;
-  pattern = pattern_number 0 1 1 1;
-  noise_bound = 36;
-  flip_bound = flip_bound_of ThreeQuarters;
-}
-row_of R24 = record {
-  mbps = 24;
-  modulation = Qam16;
-  code_rate = Half;
-  bits_per_carrier = bits_of_modulation Qam16;
-  coded_bits = 192;
-  field_bits = 96;
-  pattern = pattern_number 1 0 0 1;
-  noise_bound = 16;
-  flip_bound = flip_bound_of Half;
-}
-row_of R36 = record {
-  mbps = 36;
-  modulation = Qam16;
-  code_rate = ThreeQuarters;
-  bits_per_carrier = bits_of_modulation Qam16;
-  coded_bits = 192;
-  field_bits = 144;
-  pattern = pattern_number 1 0 1 1;
-  noise_bound = 16;
-  flip_bound = flip_bound_of ThreeQuarters;
-}
-row_of R48 = record {
-  mbps = 48;
-  modulation = Qam64;
-  code_rate = TwoThirds;
-  bits_per_carrier = bits_of_modulation Qam64;
-  coded_bits = 288;
-  field_bits = 192;
-  pattern = pattern_number 0 0 0 1;
-  noise_bound = 8;
-  flip_bound = flip_bound_of TwoThirds;
-}
-row_of R54 = record {
-  mbps = 54;
-  modulation = Qam64;
-  code_rate = ThreeQuarters;
-  bits_per_carrier = bits_of_modulation Qam64;
-  coded_bits = 288;
-  field_bits = 216;
-  pattern = pattern_number 0 0 1 1;
-  noise_bound = 8;
-  flip_bound = flip_bound_of ThreeQuarters;
-}
+row_of R6 = row 6 Bpsk Half 48 24 (pattern_number 1 1 0 1) 64
+row_of R9 = row 9 Bpsk ThreeQuarters 48 36 (pattern_number 1 1 1 1) 64
+row_of R12 = row 12 Qpsk Half 96 48 (pattern_number 0 1 0 1) 36
+row_of R18 = row 18 Qpsk ThreeQuarters 96 72 (pattern_number 0 1 1 1) 36
+row_of R24 = row 24 Qam16 Half 192 96 (pattern_number 1 0 0 1) 16
+row_of R36 = row 36 Qam16 ThreeQuarters 192 144 (pattern_number 1 0 1 1) 16
+row_of R48 = row 48 Qam64 TwoThirds 288 192 (pattern_number 0 0 0 1) 8
+row_of R54 = row 54 Qam64 ThreeQuarters 288 216 (pattern_number 0 0 1 1) 8
 
 -- the eight rates, in the order of the table
 abbrev pub rates : List Rate
