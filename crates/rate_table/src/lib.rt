@@ -6,6 +6,8 @@ ghost use Rattle.rate_table.specs.declared.Rate.{Rate};
 ghost use Rattle.rate_table.specs.Table.{bits_of_modulation, rate_at, row_of};
 ghost use Rattle.rate_table.specs.Symbols.{IsLength, bits_through_tail, symbol_count};
 
+pub mod laws;
+
 /// The most octets that a PSDU has; the fewest is 1 (IEEE Std 802.11-2012, 18.3.4.3).
 pub const MOST_OCTETS: u16 = 4095;
 

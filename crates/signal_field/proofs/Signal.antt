@@ -12,8 +12,8 @@ use Rattle.bit_lists.specs.Bits.{AreBits, IsBit}
 use Rattle.conv_code.specs.Code.{code_of, parities, parity_a, parity_b}
 use Rattle.conv_code.proofs.Coded.{code_more}
 use Rattle.rate_table.specs.declared.Rate.{Rate}
-use Rattle.rate_table.specs.declared.Rate.TheVariants.{R6, R9, R12, R18, R24, R36, R48, R54}
 use Rattle.rate_table.specs.Table.{row_of}
+use Rattle.rate_table.proofs.ByRate.{one_by_pattern, pattern_fits}
 use borrow.Rule.Slice.PartMut.{put_mid}
 use Rattle.signal_field.specs.Signal.{front_bits_of, bits_of_number, even_parity, header_bits_of}
 
@@ -90,36 +90,12 @@ bits_alike count a b p q e =
     let at = λ (n i : ℕ) (lt : i < count). get_or-map-range_with_len (bit_at n) 0 count i i 0 lt (omega arith) in
     same_from_bits_below count a b p q (λ i lt. sym (at a i lt) ∙ ap (λ (l : List ℕ). get_or l i 0) e ∙ at b i lt)
 
--- the rates by their patterns' numbers, 8 to 15
-abbrev rate_named : ℕ → Rate
-rate_named pattern = slice_index_or (R48 ∷ R24 ∷ R12 ∷ R6 ∷ R54 ∷ R36 ∷ R18 ∷ R9 ∷ []) (pattern - 8) R6
-
-rate_named-pattern : (rate : Rate) → rate_named (row_of rate).pattern ≡ rate
-rate_named-pattern R6 = refl
-rate_named-pattern R9 = refl
-rate_named-pattern R12 = refl
-rate_named-pattern R18 = refl
-rate_named-pattern R24 = refl
-rate_named-pattern R36 = refl
-rate_named-pattern R48 = refl
-rate_named-pattern R54 = refl
-
-pattern_fits : (rate : Rate) → (row_of rate).pattern < 2 ^ 4
-pattern_fits R6 = omega arith
-pattern_fits R9 = omega arith
-pattern_fits R12 = omega arith
-pattern_fits R18 = omega arith
-pattern_fits R24 = omega arith
-pattern_fits R36 = omega arith
-pattern_fits R48 = omega arith
-pattern_fits R54 = omega arith
-
 -- the bits determine rate, LENGTH and the reserved bit
 pub headers_alike : (rate rate' : Rate) (length length' reserved reserved' : ℕ) → length < 2 ^ 12 → length' < 2 ^ 12 → header_bits_of rate length reserved ≡ header_bits_of rate' length' reserved' → (rate ≡ rate') × (length ≡ length') × (reserved ≡ reserved')
 unfolding header_bits_of front_bits_of bits_of_number
 headers_alike rate rate' length length' reserved reserved' p q e =
     let pattern : (row_of rate).pattern ≡ (row_of rate').pattern = bits_alike 4 _ _ (pattern_fits rate) (pattern_fits rate') (ap (λ (l : List ℕ). take 4 l) e) in (
-      sym (rate_named-pattern rate) ∙ ap rate_named pattern ∙ rate_named-pattern rate',
+      one_by_pattern rate rate' pattern,
       bits_alike 12 length length' p q (ap (λ (l : List ℕ). take 12 (drop 5 l)) e),
       ap (λ (l : List ℕ). slice_index_or l 4 0) e,
     )
