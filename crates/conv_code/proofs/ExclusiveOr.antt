@@ -1,15 +1,7 @@
 -- `^` on bits.
-use Rattle.std.proofs.Common.{◌≡◌, ℕ, zero, suc, ◌+◌, ◌%◌, bit_xor, refl, ◌∙◌, arith}
-use Rattle.bit_lists.specs.Bits.{IsBit, exclusive_or}
-
--- one bit `^` another
-bit_xor_is : (a b : ℕ) → IsBit a → IsBit b → bit_xor a b ≡ exclusive_or a b
-bit_xor_is zero zero p q = refl
-bit_xor_is zero (suc zero) p q = refl
-bit_xor_is (suc zero) zero p q = refl
-bit_xor_is (suc zero) (suc zero) p q = refl
-bit_xor_is (suc (suc a)) b p q = absurd (omega arith)
-bit_xor_is a (suc (suc b)) p q = absurd (omega arith)
+use Rattle.std.proofs.Common.{◌≡◌, ℕ, ◌+◌, ◌%◌, bit_xor, ◌∙◌, arith}
+use Rattle.bit_lists.specs.Bits.{IsBit}
+use Rattle.bit_lists.proofs.BitFacts.{bit_xor_is}
 
 -- one bit more
 bit_xor_more : (x sum b : ℕ) → x ≡ sum % 2 → IsBit b → bit_xor x b ≡ (sum + b) % 2

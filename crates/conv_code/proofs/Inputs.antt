@@ -1,16 +1,11 @@
 -- What the inputs before a place have to do with its parities and with the state before it.
 use Rattle.std.proofs.Common.{◌≡◌, ℕ, ◌+◌, ◌-◌, ◌*◌, ◌%◌, ◌<◌, ◌≤◌, List, length, slice_index, refl, ◌∙◌, inl, inr, arith, ltb}
-use Rattle.std.proofs.lemmas.List.{get_or_past}
 use Rattle.std.proofs.lemmas.Bool.{cases_lt, cond-true, cond-false, lt-ltb, le-ltb}
 use Rattle.bit_lists.specs.Bits.{IsBit, AreBits}
+use Rattle.bit_lists.proofs.BitFacts.{IsBit-slice_index}
 use Rattle.std.specs.Int.{bit_at}
 use Rattle.conv_code.specs.Code.{earlier, parity_a, parity_b}
-use Rattle.conv_code.specs.Trellis.{branch_a, branch_b, state_after, state_before}
-
--- an entry of a list of bits is a bit, and so is what is read past its end
-IsBit-slice_index : (u : List ℕ) (k : ℕ) → AreBits u → IsBit (slice_index u k)
-IsBit-slice_index u k bits =
-    elim (cases_lt k (length u)) [ inl within ↦ bits k 0 within | inr past ↦ rw (get_or_past u k 0 past) (omega arith) ]
+use Rattle.conv_code.specs.States.{branch_a, branch_b, state_after, state_before}
 
 -- an input before the first place is 0
 pub earlier_before : (u : List ℕ) (i steps : ℕ) → i < steps → earlier u i steps ≡ 0
@@ -45,6 +40,12 @@ earlier-more u i steps further e =
 -- six bits that are shifted by one place, where the highest falls away
 shifted : (input one two three four five six : ℕ) → input < 2 → one < 2 → two < 2 → three < 2 → four < 2 → five < 2 → (2 * (one + 2 * two + 4 * three + 8 * four + 16 * five + 32 * six) + input) % 64 ≡ input + 2 * one + 4 * two + 8 * three + 16 * four + 32 * five
 shifted input one two three four five six p q r s t v = omega arith
+
+-- a state is below 64
+pub state_before-lt : (u : List ℕ) (i : ℕ) → AreBits u → state_before u i < 64
+unfolding state_before
+state_before-lt u i bits =
+    omega (arith, IsBit-earlier u i 1 bits, IsBit-earlier u i 2 bits, IsBit-earlier u i 3 bits, IsBit-earlier u i 4 bits, IsBit-earlier u i 5 bits, IsBit-earlier u i 6 bits)
 
 -- the state before the next place is the state after the step at this one
 pub state_before-more : (u : List ℕ) (i : ℕ) → AreBits u → state_after (state_before u i) (slice_index u i) ≡ state_before u (i + 1)

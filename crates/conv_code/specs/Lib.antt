@@ -1,3 +1,3 @@
 pub mod Code
 pub mod Linear
-pub mod Trellis
+pub mod States

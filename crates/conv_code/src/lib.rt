@@ -5,7 +5,7 @@ ghost use Rattle.std.specs.Prelude.{◌≡◌, ◌<◌, ◌+◌, ◌-◌, ℕ, L
 ghost use Rattle.bit_lists.specs.Bits.{AreBits, IsBit};
 ghost use Rattle.std.specs.Int.{bit_at};
 ghost use Rattle.conv_code.specs.Code.{Codes, code_of, parity_a, parity_b};
-ghost use Rattle.conv_code.specs.Trellis.{branch_a, branch_b, state_after, state_before};
+ghost use Rattle.conv_code.specs.States.{branch_a, branch_b, state_after, state_before};
 
 use std::alloc::{AllocError, Global};
 

@@ -2,15 +2,16 @@
 use Rattle.std.proofs.Common.{inl, inr, ◌≡◌, ℕ, zero, suc, ◌<◌, ◌≤◌, List, length, map, take, replicate, refl, slice_index, sym, ap, ◌∙◌, arith}
 use Rattle.std.specs.List.{range_with_len}
 use Rattle.std.proofs.lemmas.Bool.{cases_lt}
-use Rattle.std.proofs.lemmas.List.{length-take-le, get_or-take, get_or_past}
+use Rattle.std.proofs.lemmas.List.{length-take-le, get_or-take}
 use Rattle.std.proofs.lemmas.List.Elements.{All-from_get_or}
 use Rattle.std.proofs.lemmas.List.FromFn.{fill_by_all, length-map-range_with_len, get_or-map-range_with_len}
 use Rattle.bit_lists.specs.Bits.{IsBit, AreBits}
+use Rattle.bit_lists.proofs.BitFacts.{IsBit-slice_index}
 use Rattle.rate_table.specs.declared.Rate.{Rate}
-use Rattle.rate_table.specs.declared.Rate.TheVariants.{R6, R9, R12, R18, R24, R36, R48, R54}
 use Rattle.rate_table.specs.Table.{row_of}
-use Rattle.interleave_two.specs.Place.{place_of, source_of, interleaved, deinterleaved}
-use Rattle.interleave_two.proofs.Ways.{place_of-lt, source_of-lt, source_of-place_of, place_of-source_of}
+use Rattle.rate_table.proofs.ByRate.{by_rate}
+use Rattle.interleave_two.specs.Place.{interleaved_place, source_of, interleaved, deinterleaved}
+use Rattle.interleave_two.proofs.Ways.{interleaved_place-lt, source_of-lt, source_of-interleaved_place, interleaved_place-source_of}
 
 -- the front of a list whose places are known
 pub take-by_place : (f : ℕ → ℕ) (n : ℕ) (xs : List ℕ) → n ≤ length xs → ((m : ℕ) → m < n → slice_index xs m ≡ f m) → take n xs ≡ map f (range_with_len 0 n)
@@ -18,45 +19,40 @@ take-by_place f n xs within read =
     fill_by_all f (take n xs) n 0 (length-take-le n xs within) (λ m below. get_or-take n xs m 0 below ∙ read m below)
 
 -- what goes to its place is read back there, and the other way round
-pub deinterleaved-by_place : (rate : Rate) (bits places : List ℕ) → (row_of rate).coded_bits ≤ length bits → ((k : ℕ) → k < (row_of rate).coded_bits → slice_index places (place_of rate k) ≡ slice_index bits k) → deinterleaved rate places ≡ take (row_of rate).coded_bits bits
+pub deinterleaved-by_place : (rate : Rate) (bits places : List ℕ) → (row_of rate).coded_bits ≤ length bits → ((k : ℕ) → k < (row_of rate).coded_bits → slice_index places (interleaved_place rate k) ≡ slice_index bits k) → deinterleaved rate places ≡ take (row_of rate).coded_bits bits
 deinterleaved-by_place rate bits places within read =
-    sym (take-by_place (λ k. slice_index places (place_of rate k)) (row_of rate).coded_bits bits within (λ k below. sym (read k below)))
+    sym (take-by_place (λ k. slice_index places (interleaved_place rate k)) (row_of rate).coded_bits bits within (λ k below. sym (read k below)))
 
-pub interleaved-by_place : (rate : Rate) (bits order : List ℕ) → (row_of rate).coded_bits ≤ length bits → ((k : ℕ) → k < (row_of rate).coded_bits → slice_index order k ≡ slice_index bits (place_of rate k)) → interleaved rate order ≡ take (row_of rate).coded_bits bits
+pub interleaved-by_place : (rate : Rate) (bits order : List ℕ) → (row_of rate).coded_bits ≤ length bits → ((k : ℕ) → k < (row_of rate).coded_bits → slice_index order k ≡ slice_index bits (interleaved_place rate k)) → interleaved rate order ≡ take (row_of rate).coded_bits bits
 interleaved-by_place rate bits order within read =
     sym (take-by_place (λ j. slice_index order (source_of rate j)) (row_of rate).coded_bits bits within
-    (λ j below. sym (read (source_of rate j) (source_of-lt rate j below) ∙ ap (slice_index bits) (place_of-source_of rate j below))))
+    (λ j below. sym (read (source_of rate j) (source_of-lt rate j below) ∙ ap (slice_index bits) (interleaved_place-source_of rate j below))))
 
 -- the two lists undo each other
 pub deinterleaved-interleaved : (rate : Rate) (bits : List ℕ) → (row_of rate).coded_bits ≤ length bits → deinterleaved rate (interleaved rate bits) ≡ take (row_of rate).coded_bits bits
 deinterleaved-interleaved rate bits within =
     deinterleaved-by_place rate bits (interleaved rate bits) within
     (λ k below.
-    get_or-map-range_with_len (λ j. slice_index bits (source_of rate j)) 0 (row_of rate).coded_bits (place_of rate k) (place_of rate k) 0 (place_of-lt rate k below) (omega arith)
-    ∙ ap (slice_index bits) (source_of-place_of rate k below))
+    get_or-map-range_with_len (λ j. slice_index bits (source_of rate j)) 0 (row_of rate).coded_bits (interleaved_place rate k) (interleaved_place rate k) 0 (interleaved_place-lt rate k below) (omega arith)
+    ∙ ap (slice_index bits) (source_of-interleaved_place rate k below))
 
 pub interleaved-deinterleaved : (rate : Rate) (bits : List ℕ) → (row_of rate).coded_bits ≤ length bits → interleaved rate (deinterleaved rate bits) ≡ take (row_of rate).coded_bits bits
 interleaved-deinterleaved rate bits within =
     interleaved-by_place rate bits (deinterleaved rate bits) within
-    (λ k below. get_or-map-range_with_len (λ m. slice_index bits (place_of rate m)) 0 (row_of rate).coded_bits k k 0 below (omega arith))
-
--- a place past the end reads as 0
-IsBit-slice_index : (bits : List ℕ) → AreBits bits → (k : ℕ) → IsBit (slice_index bits k)
-IsBit-slice_index bits are k =
-    elim (cases_lt k (length bits)) [ inl below ↦ are k 0 below | inr past ↦ (let zero_there = get_or_past bits k 0 past in omega arith) ]
+    (λ k below. get_or-map-range_with_len (λ m. slice_index bits (interleaved_place rate m)) 0 (row_of rate).coded_bits k k 0 below (omega arith))
 
 -- a list that is read from bits at its front, and is 0 behind
 pub AreBits-by_place : (bits : List ℕ) (from : ℕ → ℕ) (n : ℕ) (xs : List ℕ) → AreBits bits → ((m : ℕ) → m < n → slice_index xs m ≡ slice_index bits (from m)) → ((m : ℕ) → n ≤ m → slice_index xs m ≡ 0) → AreBits xs
 AreBits-by_place bits from n xs are read rest =
     All-from_get_or IsBit xs 0
     (λ m _. elim (cases_lt m n) [
-      | inl below ↦ (let bit = IsBit-slice_index bits are (from m) in omega (arith, read m below))
+      | inl below ↦ (let bit = IsBit-slice_index bits (from m) are in omega (arith, read m below))
       | inr past ↦ omega (arith, rest m past)
     ])
 
 -- a symbol has at most 288 bits
 pub coded_bits-le : (rate : Rate) → (row_of rate).coded_bits ≤ 288
-coded_bits-le rate = elim rate as (λ r. (row_of r).coded_bits ≤ 288) [ R6 ↦ omega arith | R9 ↦ omega arith | R12 ↦ omega arith | R18 ↦ omega arith | R24 ↦ omega arith | R36 ↦ omega arith | R48 ↦ omega arith | R54 ↦ omega arith ]
+coded_bits-le = by_rate (λ rate. (row_of rate).coded_bits ≤ 288) (omega arith) (omega arith) (omega arith) (omega arith) (omega arith) (omega arith) (omega arith) (omega arith)
 
 -- an array of zeros, at any place
 pub slice_index-zeros : (n m : ℕ) → slice_index (replicate n 0) m ≡ 0
@@ -80,5 +76,5 @@ interleaved-take rate bits =
 pub deinterleaved-take : (rate : Rate) (bits : List ℕ) → deinterleaved rate bits ≡ deinterleaved rate (take (row_of rate).coded_bits bits)
 deinterleaved-take rate bits =
     let n = (row_of rate).coded_bits in
-    map-agree (λ k. slice_index bits (place_of rate k)) (λ k. slice_index (take n bits) (place_of rate k)) n
-    (λ k below. sym (get_or-take n bits (place_of rate k) 0 (place_of-lt rate k below)))
+    map-agree (λ k. slice_index bits (interleaved_place rate k)) (λ k. slice_index (take n bits) (interleaved_place rate k)) n
+    (λ k below. sym (get_or-take n bits (interleaved_place rate k) 0 (interleaved_place-lt rate k below)))

@@ -7,7 +7,7 @@ use Rattle.std.proofs.lemmas.List.Sums.{position_or_len_is}
 use Rattle.rate_table.specs.declared.Rate.{Rate}
 use Rattle.rate_table.specs.declared.Rate.TheVariants.{R6, R9, R12, R18, R24, R36, R48, R54}
 use Rattle.rate_table.specs.Table.{row_of}
-use Rattle.interleave_two.specs.Place.{group_of, place_in, place_of, source_of}
+use Rattle.interleave_two.specs.Place.{group_of, place_in, interleaved_place, source_of}
 use Rattle.interleave_two.specs.Source.{first_source, second_source}
 
 -- the bit that goes to place j, by the formulas, for N_CBPS and N_BPSC
@@ -74,39 +74,39 @@ abbrev pub source_by_formula : Rate → ℕ → ℕ
 source_by_formula rate j = source_in (row_of rate).coded_bits (row_of rate).bits_per_carrier j
 
 pub source_of-by_formula : (rate : Rate) (j : ℕ) → j < (row_of rate).coded_bits → source_of rate j ≡ source_by_formula rate j
-unfolding source_of place_of
+unfolding source_of interleaved_place
 source_of-by_formula rate j below =
     let n = (row_of rate).coded_bits in
     let b = (row_of rate).bits_per_carrier in
     let source = goes rate j below in
     let places = range_with_len 0 n in
     let long = length-range_with_len 0 n in
-    position_or_len_is (λ k. eqb (place_of rate k) j) places (source_by_formula rate j) 0
+    position_or_len_is (λ k. eqb (interleaved_place rate k) j) places (source_by_formula rate j) 0
     (let within = source.source_within in omega arith)
     (λ k before.
     let in_range : k < n = omega (arith, source.source_within) in
     let here : get_or places k 0 ≡ k = get_or-range_with_len 0 n k 0 in_range ∙ omega arith in
-    ap (λ m. eqb (place_of rate m) j) here
+    ap (λ m. eqb (interleaved_place rate m) j) here
     ∙ ne_eqb (place_in n b k) j (λ e. let back = (goes rate k in_range).place_returns in let same = ap (source_in n b) e in absurd (omega arith)))
     (λ within.
     let in_range : source_by_formula rate j < n = source.source_within in
     let here : get_or places (source_by_formula rate j) 0 ≡ source_by_formula rate j = get_or-range_with_len 0 n (source_by_formula rate j) 0 in_range ∙ omega arith in
-    ap (λ m. eqb (place_of rate m) j) here ∙ eq-eqb (place_in n b (source_in n b j)) j source.source_returns)
+    ap (λ m. eqb (interleaved_place rate m) j) here ∙ eq-eqb (place_in n b (source_in n b j)) j source.source_returns)
 
-pub place_of-lt : (rate : Rate) (k : ℕ) → k < (row_of rate).coded_bits → place_of rate k < (row_of rate).coded_bits
-unfolding place_of
-place_of-lt rate k below = (goes rate k below).place_within
+pub interleaved_place-lt : (rate : Rate) (k : ℕ) → k < (row_of rate).coded_bits → interleaved_place rate k < (row_of rate).coded_bits
+unfolding interleaved_place
+interleaved_place-lt rate k below = (goes rate k below).place_within
 
 pub source_of-lt : (rate : Rate) (j : ℕ) → j < (row_of rate).coded_bits → source_of rate j < (row_of rate).coded_bits
 source_of-lt rate j below =
     let source = goes rate j below in omega (arith, source_of-by_formula rate j below, source.source_within)
 
-pub source_of-place_of : (rate : Rate) (k : ℕ) → k < (row_of rate).coded_bits → source_of rate (place_of rate k) ≡ k
-unfolding place_of
-source_of-place_of rate k below =
-    source_of-by_formula rate (place_of rate k) (place_of-lt rate k below) ∙ (goes rate k below).place_returns
+pub source_of-interleaved_place : (rate : Rate) (k : ℕ) → k < (row_of rate).coded_bits → source_of rate (interleaved_place rate k) ≡ k
+unfolding interleaved_place
+source_of-interleaved_place rate k below =
+    source_of-by_formula rate (interleaved_place rate k) (interleaved_place-lt rate k below) ∙ (goes rate k below).place_returns
 
-pub place_of-source_of : (rate : Rate) (j : ℕ) → j < (row_of rate).coded_bits → place_of rate (source_of rate j) ≡ j
-unfolding place_of
-place_of-source_of rate j below =
-    ap (place_of rate) (source_of-by_formula rate j below) ∙ (goes rate j below).source_returns
+pub interleaved_place-source_of : (rate : Rate) (j : ℕ) → j < (row_of rate).coded_bits → interleaved_place rate (source_of rate j) ≡ j
+unfolding interleaved_place
+interleaved_place-source_of rate j below =
+    ap (interleaved_place rate) (source_of-by_formula rate j below) ∙ (goes rate j below).source_returns

@@ -21,12 +21,12 @@ abbrev pub place_in : ℕ → ℕ → ℕ → ℕ
 place_in coded_bits bits_per_carrier k = second_place coded_bits (group_of bits_per_carrier) (first_place coded_bits k)
 
 -- the place to which bit k goes
-unfoldable pub place_of : Rate → ℕ → ℕ
-place_of rate k = place_in (row_of rate).coded_bits (row_of rate).bits_per_carrier k
+unfoldable pub interleaved_place : Rate → ℕ → ℕ
+interleaved_place rate k = place_in (row_of rate).coded_bits (row_of rate).bits_per_carrier k
 
 -- the place k whose bit goes to place j: the first of all places that does
 unfoldable pub source_of : Rate → ℕ → ℕ
-source_of rate j = position_or_len (λ k. place_of rate k == j) (range_with_len 0 (row_of rate).coded_bits)
+source_of rate j = position_or_len (λ k. interleaved_place rate k == j) (range_with_len 0 (row_of rate).coded_bits)
 
 -- the N_CBPS bits of a symbol, interleaved: at place j stands the bit that goes there
 abbrev pub interleaved : Rate → List ℕ → List ℕ
@@ -34,7 +34,7 @@ interleaved rate bits = map (λ j. slice_index bits (source_of rate j)) (range_w
 
 -- and back: at place k stands the bit at the place to which k goes
 abbrev pub deinterleaved : Rate → List ℕ → List ℕ
-deinterleaved rate bits = map (λ k. slice_index bits (place_of rate k)) (range_with_len 0 (row_of rate).coded_bits)
+deinterleaved rate bits = map (λ k. slice_index bits (interleaved_place rate k)) (range_with_len 0 (row_of rate).coded_bits)
 
 -- the bits of symbol m: the m-th group of N_CBPS bits
 abbrev pub symbol_bits : Rate → List ℕ → ℕ → List ℕ

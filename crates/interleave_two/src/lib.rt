@@ -5,7 +5,7 @@
 ghost use Rattle.std.specs.Prelude.{◌≡◌, ℕ, ◌<◌, ◌≤◌, length, take, slice_index};
 ghost use Rattle.bit_lists.specs.Bits.{AreBits};
 ghost use Rattle.rate_table.specs.Table.{row_of};
-ghost use Rattle.interleave_two.specs.Place.{first_place, second_place, group_of, place_of, source_of, interleaved, deinterleaved};
+ghost use Rattle.interleave_two.specs.Place.{first_place, second_place, group_of, interleaved_place, source_of, interleaved, deinterleaved};
 ghost use Rattle.interleave_two.specs.Source.{first_source, second_source};
 
 pub mod examples;
@@ -15,7 +15,7 @@ use rate_table::Rate;
 /// The place, below N_CBPS, to which bit k of a symbol goes, for k below N_CBPS.
 pub fn place(rate: Rate, k: usize) -> usize
     requires { k < (row_of rate).coded_bits }
-    ensures place { result ≡ place_of rate k }
+    ensures place { result ≡ interleaved_place rate k }
     ensures within { result < (row_of rate).coded_bits }
     ensures undone { source_of rate result ≡ k }
 {
@@ -27,7 +27,7 @@ pub fn unplace(rate: Rate, j: usize) -> usize
     requires { j < (row_of rate).coded_bits }
     ensures source { result ≡ source_of rate j }
     ensures within { result < (row_of rate).coded_bits }
-    ensures undone { place_of rate result ≡ j }
+    ensures undone { interleaved_place rate result ≡ j }
 {
     first_source(rate, second_source(rate, j))
 }
@@ -36,7 +36,7 @@ pub fn unplace(rate: Rate, j: usize) -> usize
 pub fn interleave(rate: Rate, bits: &[u8; 288]) -> [u8; 288]
     requires { AreBits bits.now }
     ensures by_place { (k : ℕ) → k < (row_of rate).coded_bits
-        → slice_index result (place_of rate k) ≡ slice_index bits.now k }
+        → slice_index result (interleaved_place rate k) ≡ slice_index bits.now k }
     ensures others { (k : ℕ) → (row_of rate).coded_bits ≤ k → slice_index result k ≡ 0 }
     ensures list { take (row_of rate).coded_bits result ≡ interleaved rate bits.now }
     ensures bits { AreBits result }
@@ -56,7 +56,7 @@ pub fn interleave(rate: Rate, bits: &[u8; 288]) -> [u8; 288]
 pub fn deinterleave(rate: Rate, bits: &[u8; 288]) -> [u8; 288]
     requires { AreBits bits.now }
     ensures by_place { (k : ℕ) → k < (row_of rate).coded_bits
-        → slice_index result k ≡ slice_index bits.now (place_of rate k) }
+        → slice_index result k ≡ slice_index bits.now (interleaved_place rate k) }
     ensures others { (k : ℕ) → (row_of rate).coded_bits ≤ k → slice_index result k ≡ 0 }
     ensures list { take (row_of rate).coded_bits result ≡ deinterleaved rate bits.now }
     ensures bits { AreBits result }

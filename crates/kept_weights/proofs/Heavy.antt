@@ -6,7 +6,7 @@ use Rattle.bit_lists.specs.Bits.{IsBit, AreBits}
 use Rattle.rate_table.specs.declared.CodeRate.{CodeRate}
 use Rattle.rate_table.specs.declared.CodeRate.TheVariants.{Half, TwoThirds, ThreeQuarters}
 use Rattle.conv_code.specs.Code.{earlier}
-use Rattle.conv_code.specs.Trellis.{state_before}
+use Rattle.conv_code.specs.States.{state_before}
 use Rattle.conv_code.proofs.Inputs.{earlier_before, earlier_inside, IsBit-earlier, state_before-more}
 use Rattle.puncture_map.specs.Kept.{period_of}
 use Rattle.survivor_memory.specs.Nearest.{IsClosed}

@@ -5,7 +5,7 @@ use Rattle.rate_table.specs.declared.CodeRate.{CodeRate}
 use Rattle.rate_table.specs.declared.CodeRate.TheVariants.{Half, TwoThirds, ThreeQuarters}
 use Rattle.bit_lists.specs.Bits.{IsBit}
 use Rattle.conv_code.specs.Code.{earlier, parity_a, parity_b}
-use Rattle.conv_code.specs.Trellis.{state_after}
+use Rattle.conv_code.specs.States.{state_after}
 use Rattle.puncture_map.specs.Kept.{period_of}
 use Rattle.kept_weights.specs.Weights.{least_weight}
 use Rattle.kept_weights.specs.Potentials.{branch_weight, next_phase, IsPotential, potential_of}

@@ -5,7 +5,7 @@ use Rattle.bit_lists.specs.Bits.{IsBit, AreBits}
 use Rattle.rate_table.specs.declared.CodeRate.{CodeRate}
 use Rattle.rate_table.specs.declared.CodeRate.TheVariants.{Half, TwoThirds, ThreeQuarters}
 use Rattle.conv_code.specs.Code.{parity_a, parity_b, code_of}
-use Rattle.conv_code.specs.Trellis.{state_before}
+use Rattle.conv_code.specs.States.{state_before}
 use Rattle.conv_code.proofs.Coded.{Codes-code_of, IsBit-parity_a, IsBit-parity_b}
 use Rattle.conv_code.proofs.Inputs.{branch_a_along, branch_b_along}
 use Rattle.puncture_map.specs.Kept.{is_kept, kept_places, kept_count, period_of}

@@ -4,7 +4,7 @@ use Rattle.std.specs.Prelude.{ℕ, ◌+◌, ◌*◌, ◌%◌, ◌<◌, ◌≤◌
 use Rattle.rate_table.specs.declared.CodeRate.{CodeRate}
 use Rattle.rate_table.specs.declared.CodeRate.TheVariants.{Half, TwoThirds, ThreeQuarters}
 use Rattle.bit_lists.specs.Bits.{IsBit}
-use Rattle.conv_code.specs.Trellis.{branch_a, branch_b, state_after}
+use Rattle.conv_code.specs.States.{branch_a, branch_b, state_after}
 use Rattle.puncture_map.specs.Kept.{is_kept, period_of}
 use Rattle.kept_weights.specs.declared.potentials.TheConstants.{HALF, TWO_THIRDS, THREE_QUARTERS}
 use Rattle.kept_weights.specs.Weights.{least_weight}

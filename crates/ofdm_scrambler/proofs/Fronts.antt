@@ -1,27 +1,11 @@
 -- The number whose sequence begins with seven bits.
 use Rattle.std.proofs.Common.{◌≡◌, ℕ, zero, suc, ◌+◌, ◌*◌, ◌<◌, ◌≤◌, Bool, true, false, ◌&&◌, nat_eq, List, [], ◌∷◌, length, map, get_or, ap, sym, ◌∙◌, refl, arith, lit<, inl, inr}
-use Rattle.std.proofs.lemmas.Bool.{cases_eq, eqb-true}
+use Rattle.std.proofs.lemmas.Bool.{agree_below_at, and_parts, eqb-true}
 use Rattle.std.proofs.lemmas.List.{ext_get_or}
 use Rattle.std.specs.List.{range_with_len}
 use Rattle.std.specs.Int.{bit_at}
 use Rattle.bit_lists.specs.Bits.{exclusive_or, AreBits}
 use Rattle.ofdm_scrambler.specs.Sequence.{from_minus_seven, scrambler_sequence}
-
--- a test passes at each place below n
-unfoldable pub passes_below : (ℕ → Bool) → ℕ → Bool
-passes_below p zero = true
-passes_below p (suc n) = p n && passes_below p n
-
-both_of : (x rest : Bool) → (x && rest) ≡ true → (x ≡ true) × (rest ≡ true)
-both_of true rest h = (refl, h)
-both_of false rest h = cc
-
-passes_at : (p : ℕ → Bool) (n : ℕ) → passes_below p n ≡ true → (k : ℕ) → k < n → p k ≡ true
-unfolding passes_below
-passes_at p zero h k lt = absurd (omega arith)
-passes_at p (suc n) h k lt =
-    let both = both_of (p n) (passes_below p n) h in
-    elim (cases_eq k n) [ inl same ↦ rw same both.0 | inr other ↦ passes_at p n both.1 k (omega arith) ]
 
 -- two lists of numbers are the same
 same_list : List ℕ → List ℕ → Bool
@@ -36,7 +20,7 @@ are_same [] [] h = refl
 are_same [] (y ∷ ys) h = cc
 are_same (x ∷ xs) [] h = cc
 are_same (x ∷ xs) (y ∷ ys) h =
-    let both = both_of (nat_eq x y) (same_list xs ys) h in
+    let both = and_parts (nat_eq x y) (same_list xs ys) h in
     ap (λ z. z ∷ xs) (eqb-true x y both.0) ∙ ap (λ zs. y ∷ zs) (are_same xs ys both.1)
 
 -- the number that seven bits z0 to z6 give: x1 to x7, each an exclusive or
@@ -61,12 +45,12 @@ seven_bits k = map (bit_at k) (range_with_len 0 7)
 
 -- the sequence of a number leads back to it
 pub number_of_sequence : (k : ℕ) → k < 128 → number_of_front (scrambler_sequence k 7) ≡ k
-unfolding passes_below from_minus_seven
-number_of_sequence k lt = eqb-true _ _ (passes_at (λ k. nat_eq (number_of_front (scrambler_sequence k 7)) k) 128 refl k lt)
+unfolding from_minus_seven
+number_of_sequence k lt = eqb-true _ _ (agree_below_at (λ k. nat_eq (number_of_front (scrambler_sequence k 7)) k) (λ k. true) 128 k refl lt)
 
 begins_so : (k : ℕ) → k < 128 → scrambler_sequence (number_of_front (seven_bits k)) 7 ≡ seven_bits k
-unfolding passes_below from_minus_seven same_list
-begins_so k lt = are_same _ _ (passes_at (λ k. same_list (scrambler_sequence (number_of_front (seven_bits k)) 7) (seven_bits k)) 128 refl k lt)
+unfolding from_minus_seven same_list
+begins_so k lt = are_same _ _ (agree_below_at (λ k. same_list (scrambler_sequence (number_of_front (seven_bits k)) 7) (seven_bits k)) (λ k. true) 128 k refl lt)
 
 -- seven places
 at_seven : (P : ℕ → Type 0) → P 0 → P 1 → P 2 → P 3 → P 4 → P 5 → P 6 → (i : ℕ) → i < 7 → P i

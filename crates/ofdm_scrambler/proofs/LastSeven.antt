@@ -81,15 +81,6 @@ pub AreBits-scrambled : (number : ℕ) (bits : List ℕ) → AreBits (scrambled 
 AreBits-scrambled number bits =
     All-map-range_with_len (λ n. exclusive_or (slice_index bits n) (scrambler_bit number n)) (length bits) (λ n. omega arith)
 
--- one bit `^` another
-pub bit_xor_is : (a b : ℕ) → a < 2 → b < 2 → bit_xor a b ≡ exclusive_or a b
-bit_xor_is zero zero p q = refl
-bit_xor_is zero (suc zero) p q = refl
-bit_xor_is (suc zero) zero p q = refl
-bit_xor_is (suc zero) (suc zero) p q = refl
-bit_xor_is (suc (suc a)) b p q = absurd (omega arith)
-bit_xor_is a (suc (suc b)) p q = absurd (omega arith)
-
 -- each place of the sequence of the number 0 is 0
 sequence_of_zero : (k : ℕ) → from_minus_seven 0 k ≡ 0
 unfolding from_minus_seven

@@ -2,7 +2,7 @@
 use Rattle.std.proofs.Common.{◌≡◌, ℕ, zero, suc, ◌+◌, ◌-◌, ◌/◌, ◌%◌, ◌<◌, true, eqb, get_or, refl, ◌∙◌, ◌==◌, if◌then◌else◌, arith}
 use Rattle.std.proofs.lemmas.Bool.{agree_below_at, eqb-true}
 use Rattle.conv_code.specs.Code.{earlier, parity_a, parity_b}
-use Rattle.conv_code.specs.Trellis.{branch_a, branch_b}
+use Rattle.conv_code.specs.States.{branch_a, branch_b}
 use Rattle.survivor_memory.specs.declared.lanes.TheConstants.{A_FROM_LOWER, B_FROM_LOWER}
 use Rattle.survivor_memory.specs.declared.PairCosts.{PairCosts}
 use Rattle.survivor_memory.specs.Costs.{price, IsLight}

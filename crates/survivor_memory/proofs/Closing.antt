@@ -1,7 +1,7 @@
 -- The lists that end in six zeros are those that lead to state 0.
 use Rattle.std.proofs.Common.{◌≡◌, ℕ, ◌-◌, ◌≤◌, List, length, refl, sym, ◌∙◌, arith}
 use Rattle.conv_code.specs.Code.{earlier}
-use Rattle.conv_code.specs.Trellis.{state_before}
+use Rattle.conv_code.specs.States.{state_before}
 use Rattle.conv_code.proofs.Inputs.{earlier_inside}
 use Rattle.survivor_memory.specs.declared.PairCosts.{PairCosts}
 use Rattle.survivor_memory.specs.Nearest.{IsClosed, IsNearest}

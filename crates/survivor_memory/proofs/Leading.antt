@@ -4,19 +4,13 @@ use Rattle.std.proofs.lemmas.List.{length_push, get_or_push, length-take-le, tak
 use Rattle.std.proofs.lemmas.List.Elements.{All-nil, All-cons, All-append, All-take}
 use Rattle.bit_lists.specs.Bits.{IsBit, AreBits}
 use Rattle.conv_code.specs.Code.{parity_a, parity_b}
-use Rattle.conv_code.specs.Trellis.{state_before, state_after, branch_a, branch_b}
-use Rattle.conv_code.proofs.Inputs.{IsBit-earlier, earlier_before, state_before-more, branch_a_along, branch_b_along}
+use Rattle.conv_code.specs.States.{state_before, state_after, branch_a, branch_b}
+use Rattle.conv_code.proofs.Inputs.{earlier_before, state_before-lt, state_before-more, branch_a_along, branch_b_along}
 use Rattle.survivor_memory.specs.declared.PairCosts.{PairCosts}
 use Rattle.survivor_memory.specs.Costs.{price, cost, most_cost}
 use Rattle.survivor_memory.specs.Survivors.{LeadsTo}
 use Rattle.survivor_memory.proofs.Prefixes.{SameBelow, SameBelow-take, SameBelow-append, state_before_same}
 use Rattle.survivor_memory.proofs.Sums.{price_le, cost_is, cost_from-nil, cost_from-cons, cost_from-append, cost_from_same}
-
--- a state is below 64
-pub state_before_lt : (u : List ℕ) (i : ℕ) → AreBits u → state_before u i < 64
-unfolding state_before
-state_before_lt u i bits =
-    omega (arith, IsBit-earlier u i 1 bits, IsBit-earlier u i 2 bits, IsBit-earlier u i 3 bits, IsBit-earlier u i 4 bits, IsBit-earlier u i 5 bits, IsBit-earlier u i 6 bits)
 
 -- before the first place all inputs are 0
 pub state_before-zero : (u : List ℕ) → state_before u 0 ≡ 0
@@ -26,7 +20,7 @@ state_before-zero u =
 
 -- no list leads to a number past the states
 pub leads_lt : {n s : ℕ} {u : List ℕ} → LeadsTo n s u → s < 64
-leads_lt {n} {s} {u} leads = rw leads.ends at (state_before_lt u n leads.bits)
+leads_lt {n} {s} {u} leads = rw leads.ends at (state_before-lt u n leads.bits)
 
 -- the empty list leads to state 0
 pub leads-nil : LeadsTo 0 0 []

@@ -1,6 +1,6 @@
 -- The survivor of a state one pair on.
 use Rattle.std.proofs.Common.{◌≡◌, ℕ, ◌+◌, ◌/◌, ◌%◌, ◌<◌, ◌≤◌, List, [], ◌∷◌, ◌++◌, length, ap, ◌∙◌, ◌⊎◌, inl, inr, arith}
-use Rattle.conv_code.specs.Trellis.{state_after}
+use Rattle.conv_code.specs.States.{state_after}
 use Rattle.survivor_memory.specs.declared.PairCosts.{PairCosts}
 use Rattle.survivor_memory.specs.Costs.{cost}
 use Rattle.survivor_memory.specs.Nearest.{ComesBefore, IsFirstOfLeast}

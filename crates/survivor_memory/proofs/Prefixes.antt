@@ -3,7 +3,7 @@ use Rattle.std.proofs.Common.{◌≡◌, ℕ, ◌+◌, ◌-◌, ◌<◌, ◌≤�
 use Rattle.std.proofs.lemmas.Bool.{cases_lt}
 use Rattle.std.proofs.lemmas.List.{get_or-take, get_or_append_left}
 use Rattle.conv_code.specs.Code.{earlier, parity_a, parity_b}
-use Rattle.conv_code.specs.Trellis.{state_before}
+use Rattle.conv_code.specs.States.{state_before}
 use Rattle.conv_code.proofs.Inputs.{earlier_before, earlier_inside}
 
 -- two lists agree at the places below a number

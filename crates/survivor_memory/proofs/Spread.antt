@@ -7,7 +7,7 @@ use Rattle.std.proofs.lemmas.List.Elements.{All-map, All-append, All-take, All-d
 use Rattle.std.proofs.lemmas.Nat.Bits.{bit_at-lt}
 use Rattle.bit_lists.specs.Bits.{IsBit, AreBits}
 use Rattle.conv_code.specs.Code.{earlier}
-use Rattle.conv_code.specs.Trellis.{state_before}
+use Rattle.conv_code.specs.States.{state_before}
 use Rattle.conv_code.proofs.Inputs.{earlier_inside}
 use Rattle.survivor_memory.specs.declared.PairCosts.{PairCosts}
 use Rattle.survivor_memory.specs.Costs.{cost, most_cost}

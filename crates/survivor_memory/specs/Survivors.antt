@@ -2,7 +2,7 @@
 use Rattle.std.specs.Prelude.{ℕ, zero, suc, ◌+◌, ◌*◌, ◌/◌, ◌%◌, ◌<◌, ◌≤◌, ◌≡◌, List, [], ◌∷◌, ◌++◌, All, length, slice_index}
 use Rattle.std.specs.Int.{bit_at}
 use Rattle.bit_lists.specs.Bits.{AreBits}
-use Rattle.conv_code.specs.Trellis.{state_before}
+use Rattle.conv_code.specs.States.{state_before}
 use Rattle.survivor_memory.specs.declared.PairCosts.{PairCosts}
 use Rattle.survivor_memory.specs.Costs.{IsLight, cost}
 use Rattle.survivor_memory.specs.Nearest.{IsFirstOfLeast}

@@ -1,7 +1,7 @@
 //! A step over the 64 states, as lanes. State s has the predecessors s / 2, the lower, and s / 2 + 32, the higher.
 ghost use Rattle.std.specs.Prelude.{◌≡◌, ◌==◌, ℕ, ◌+◌, ◌-◌, ◌*◌, ◌/◌, ◌%◌, ◌<◌, ◌≤◌, min, slice_index, if◌then◌else◌};
 ghost use Rattle.std.specs.Int.{bit_at};
-ghost use Rattle.conv_code.specs.Trellis.{branch_a, branch_b};
+ghost use Rattle.conv_code.specs.States.{branch_a, branch_b};
 ghost use Rattle.survivor_memory.specs.Costs.{price, IsLight};
 
 use crate::PairCosts;

@@ -1,6 +1,6 @@
 use Rattle.std.proofs.Common.{◌≡◌, refl, arith, append_assoc, rules}
 use Rattle.conv_code.specs.Code.{code_of, earlier, parity_a, parity_b}
-use Rattle.conv_code.specs.Trellis.{state_before}
+use Rattle.conv_code.specs.States.{state_before}
 use Rattle.conv_code.proofs.Coded.{code_more, Codes-code_of, AreBits-code_of}
 use Rattle.conv_code.proofs.encode.Goals as goal
 

@@ -1,7 +1,7 @@
 use Rattle.std.proofs.Common.{◌≡◌, ◌<◌}
 use Rattle.std.specs.List.{flat_map, range_with_len}
 use Rattle.conv_code.specs.Code.{parities}
-use Rattle.conv_code.specs.Trellis.{state_before}
+use Rattle.conv_code.specs.States.{state_before}
 use Rattle.conv_code.proofs.encode.Given as goal
 
 abbrev pub invariant-loop-bit : goal.invariant-loop-bit

@@ -1,6 +1,6 @@
 use Rattle.std.proofs.Common.{◌<◌, slice_index, refl, arith}
 use Rattle.rate_table.specs.Table.{row_of}
-use Rattle.interleave_two.specs.Place.{place_of}
+use Rattle.interleave_two.specs.Place.{interleaved_place}
 use Rattle.interleave_two.proofs.ByPlace.{take-by_place, interleaved-by_place, interleaved-deinterleaved, AreBits-by_place, coded_bits-le, slice_index-zeros, deinterleaved-take}
 use Rattle.interleave_two.proofs.deinterleave.Goals as goal
 
@@ -17,13 +17,13 @@ returns-clause-by_place c k below =
 
 pub returns-clause-list : goal.returns-clause-list
 returns-clause-list c =
-    take-by_place (λ k. slice_index c.args.bits.now (place_of c.args.rate k)) (row_of c.args.rate).coded_bits c.loop-k.order
+    take-by_place (λ k. slice_index c.args.bits.now (interleaved_place c.args.rate k)) (row_of c.args.rate).coded_bits c.loop-k.order
     (omega (arith, coded_bits-le c.args.rate, c.loop-k.invariant.long))
     (returns-clause-by_place c)
 
 pub returns-clause-bits : goal.returns-clause-bits
 returns-clause-bits c =
-    AreBits-by_place c.args.bits.now (place_of c.args.rate) c.loop-k.k c.loop-k.order c.requires c.loop-k.invariant.read c.loop-k.invariant.rest
+    AreBits-by_place c.args.bits.now (interleaved_place c.args.rate) c.loop-k.k c.loop-k.order c.requires c.loop-k.invariant.read c.loop-k.invariant.rest
 
 pub returns-clause-undone : goal.returns-clause-undone
 returns-clause-undone c =

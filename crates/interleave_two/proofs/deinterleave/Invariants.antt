@@ -1,10 +1,10 @@
 use Rattle.std.proofs.Common.{◌≡◌, ℕ, ◌<◌, ◌≤◌, length, slice_index}
-use Rattle.interleave_two.specs.Place.{place_of}
+use Rattle.interleave_two.specs.Place.{interleaved_place}
 use Rattle.interleave_two.proofs.deinterleave.Given as goal
 
 abbrev pub invariant-loop-k : goal.invariant-loop-k
 invariant-loop-k l = record {
   long : length l.order ≡ 288;
-  read : (m : ℕ) → m < l.k → slice_index l.order m ≡ slice_index l.bits (place_of l.rate m);
+  read : (m : ℕ) → m < l.k → slice_index l.order m ≡ slice_index l.bits (interleaved_place l.rate m);
   rest : (m : ℕ) → l.k ≤ m → slice_index l.order m ≡ 0;
 }

@@ -1,7 +1,7 @@
 use Rattle.std.proofs.Common.{◌<◌, slice_index, ap, ◌∙◌, refl, arith}
 use Rattle.rate_table.specs.Table.{row_of}
-use Rattle.interleave_two.specs.Place.{place_of, source_of}
-use Rattle.interleave_two.proofs.Ways.{place_of-lt, source_of-place_of}
+use Rattle.interleave_two.specs.Place.{interleaved_place, source_of}
+use Rattle.interleave_two.proofs.Ways.{interleaved_place-lt, source_of-interleaved_place}
 use Rattle.interleave_two.proofs.ByPlace.{take-by_place, deinterleaved-by_place, deinterleaved-interleaved, AreBits-by_place, coded_bits-le, slice_index-zeros, interleaved-take}
 use Rattle.interleave_two.proofs.interleave.Goals as goal
 
@@ -14,10 +14,10 @@ loop-j-init c = record {
 
 pub returns-clause-by_place : goal.returns-clause-by_place
 returns-clause-by_place c k below =
-    let goes = place_of-lt c.args.rate k below in
-    let in_range : place_of c.args.rate k < c.loop-j.j = omega (arith, c.coded_bits-j-end.ensures) in
-    c.loop-j.invariant.read (place_of c.args.rate k) in_range
-    ∙ ap (slice_index c.args.bits.now) (source_of-place_of c.args.rate k below)
+    let goes = interleaved_place-lt c.args.rate k below in
+    let in_range : interleaved_place c.args.rate k < c.loop-j.j = omega (arith, c.coded_bits-j-end.ensures) in
+    c.loop-j.invariant.read (interleaved_place c.args.rate k) in_range
+    ∙ ap (slice_index c.args.bits.now) (source_of-interleaved_place c.args.rate k below)
 
 pub returns-clause-list : goal.returns-clause-list
 returns-clause-list c =

@@ -1,8 +1,8 @@
 use Rattle.std.proofs.Common.{ap, sym, ◌∙◌}
 use Rattle.rate_table.specs.Table.{row_of}
-use Rattle.interleave_two.specs.Place.{place_of}
+use Rattle.interleave_two.specs.Place.{interleaved_place}
 use Rattle.interleave_two.specs.Source.{first_source}
-use Rattle.interleave_two.proofs.Ways.{source_of-by_formula, place_of-source_of}
+use Rattle.interleave_two.proofs.Ways.{source_of-by_formula, interleaved_place-source_of}
 use Rattle.interleave_two.proofs.unplace.Goals as goal
 
 pub returns-clause-source : goal.returns-clause-source
@@ -12,4 +12,4 @@ returns-clause-source c =
     ∙ sym (source_of-by_formula c.args.rate c.args.j c.requires)
 
 pub returns-clause-undone : goal.returns-clause-undone
-returns-clause-undone c = ap (place_of c.args.rate) (returns-clause-source c) ∙ place_of-source_of c.args.rate c.args.j c.requires
+returns-clause-undone c = ap (interleaved_place c.args.rate) (returns-clause-source c) ∙ interleaved_place-source_of c.args.rate c.args.j c.requires

@@ -2,8 +2,9 @@ use Rattle.std.proofs.Common.{ℕ, ◌<◌, ◌≡◌, ◌≢◌, refl, arith, l
 use Rattle.std.proofs.lemmas.List.FromFn.{fill_by_all}
 use Rattle.std.proofs.lemmas.List.Edits.{fill_by_more}
 use Rattle.bit_lists.specs.Bits.{exclusive_or}
+use Rattle.bit_lists.proofs.BitFacts.{bit_xor_is}
 use Rattle.ofdm_scrambler.specs.Sequence.{scrambler_bit}
-use Rattle.ofdm_scrambler.proofs.LastSeven.{HoldsBefore-start, HoldsBefore-more, next_bit_is, bit_xor_is, AreBits-scrambled, IsBit-scrambler_bit}
+use Rattle.ofdm_scrambler.proofs.LastSeven.{HoldsBefore-start, HoldsBefore-more, next_bit_is, AreBits-scrambled, IsBit-scrambler_bit}
 use Rattle.ofdm_scrambler.proofs.scramble_in_place.Goals as goal
 
 pub loop-bit-init : goal.loop-bit-init

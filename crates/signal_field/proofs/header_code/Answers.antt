@@ -1,7 +1,7 @@
 use Rattle.std.proofs.Common.{◌≡◌, ◌∙◌, ◌<◌, refl, arith, length}
 use Rattle.std.proofs.lemmas.List.{length-set}
 use Rattle.conv_code.specs.Code.{code_of, earlier, parity_a, parity_b}
-use Rattle.conv_code.specs.Trellis.{state_before}
+use Rattle.conv_code.specs.States.{state_before}
 use Rattle.conv_code.proofs.Coded.{AreBits-code_of}
 use Rattle.signal_field.proofs.Signal.{code_whole, coded_more, length-header_bits_of}
 use Rattle.signal_field.proofs.header_code.Goals as goal

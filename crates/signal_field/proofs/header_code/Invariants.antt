@@ -1,7 +1,7 @@
 use Rattle.std.proofs.Common.{◌≡◌, ◌*◌, ◌<◌, length, take}
 use Rattle.std.specs.List.{flat_map, range_with_len}
 use Rattle.conv_code.specs.Code.{parities}
-use Rattle.conv_code.specs.Trellis.{state_before}
+use Rattle.conv_code.specs.States.{state_before}
 use Rattle.signal_field.proofs.header_code.Given as goal
 
 abbrev pub invariant-loop-k : goal.invariant-loop-k
