@@ -10,8 +10,8 @@ use Rattle.butterfly64.specs.MirrorOrder.{mirror_of}
 use Rattle.butterfly64.specs.Lanes.{lane, low_place, is_low, joined_at, parted_at, EachOfSize}
 use Rattle.fixed_complex.proofs.ByTable.{same_pairs, are_same}
 use Rattle.butterfly64.specs.declared.lane_turns.TheConstants.{TURNS}
-use Rattle.butterfly64.proofs.Sizes.{wider, size-plus, size-minus, size-conjugate, size-scaled_product}
-use Rattle.butterfly64.proofs.TurnSizes.{turn-size}
+use Rattle.fixed_complex.proofs.PairSizes.{wider, size-plus, size-minus, size-conjugate, size-scaled_product}
+use Rattle.fixed_complex.proofs.TurnLaws.{turn-size}
 use Rattle.butterfly64.proofs.Mirrors.{mirror_of-below}
 
 -- a lane after a join, from the parts that the code computes

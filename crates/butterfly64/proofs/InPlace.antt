@@ -5,15 +5,15 @@ use Rattle.std.proofs.lemmas.List.{get_or_append_left, get_or-append_right}
 use Rattle.std.proofs.Math.Nat.{pow-suc}
 use Rattle.fixed_complex.specs.declared.Cx.{Cx}
 use Rattle.fixed_complex.specs.Pairs.{zero_pair, plus, minus, conjugate, scaled_product}
-use Rattle.butterfly64.specs.StagedSums.{entry, stage_turn, up_at, half_sums, turned_differences, down_at, up_sums, down_sums}
+use Rattle.butterfly64.specs.StagedSums.{stage_turn, up_at, half_sums, turned_differences, down_at, up_sums, down_sums}
+use Rattle.fixed_complex.specs.PairLists.{entry, PairsOfSize}
 use Rattle.butterfly64.specs.MirrorOrder.{mirror_of}
-use Rattle.butterfly64.specs.Bounds.{AreOfSize}
-use Rattle.butterfly64.proofs.Sizes.{wider, size-plus, size-minus, size-conjugate, size-scaled_product}
-use Rattle.butterfly64.proofs.TurnSizes.{turn-size}
+use Rattle.fixed_complex.proofs.PairSizes.{wider, size-plus, size-minus, size-conjugate, size-scaled_product}
+use Rattle.fixed_complex.proofs.TurnLaws.{turn-size}
 use Rattle.butterfly64.proofs.StagedSizes.{grown_by, size-up_at}
 use Rattle.butterfly64.proofs.Mirrors.{mirror_of-even, mirror_of-odd, mirror_of-below, mirror_of-undone}
 use Rattle.butterfly64.proofs.Halves.{same_functions, joined-first, joined-last, up_at-local, down_at-local, down_at-even, down_at-odd}
-use Rattle.butterfly64.proofs.SumSizes.{is_by_place}
+use Rattle.fixed_complex.proofs.PairLists.{is_by_place}
 
 -- the entries of a list's first and of its last half
 pub entry-first : (xs ys : List Cx) (n : ℕ) → n < length xs → entry (xs ++ ys) n ≡ entry xs n
@@ -110,14 +110,14 @@ parted_within level h =
     leb-true _ _ (agree_below_at (λ i. leb (2 ^ 31 * 3 ^ i) (2 ^ 39)) (λ _. true) 6 (6 - level) refl within)
 
 -- ---- sizes of halves
-pub sizes-first : (s : ℕ) (xs ys : List Cx) → AreOfSize s (xs ++ ys) → AreOfSize s xs
+pub sizes-first : (s : ℕ) (xs ys : List Cx) → PairsOfSize s (xs ++ ys) → PairsOfSize s xs
 sizes-first s xs ys h = record { each = λ n lt. let e = entry-first xs ys n lt in rw e at (h.each n (omega (arith, length-append xs ys))) }
 
-pub sizes-last : (s : ℕ) (xs ys : List Cx) → AreOfSize s (xs ++ ys) → AreOfSize s ys
+pub sizes-last : (s : ℕ) (xs ys : List Cx) → PairsOfSize s (xs ++ ys) → PairsOfSize s ys
 sizes-last s xs ys h = record { each = λ n lt. let e = entry-last xs ys (length xs) n refl in rw e at (h.each (length xs + n) (omega (arith, length-append xs ys))) }
 
 -- a list of sums, given by place
-pub up_sizes : (k : ℕ) (xs sums : List Cx) → k < 6 → length xs ≡ 2 ^ k → length sums ≡ 2 ^ k → AreOfSize (2 ^ 31) xs → IsUp k xs sums → AreOfSize (2 ^ 39) sums
+pub up_sizes : (k : ℕ) (xs sums : List Cx) → k < 6 → length xs ≡ 2 ^ k → length sums ≡ 2 ^ k → PairsOfSize (2 ^ 31) xs → IsUp k xs sums → PairsOfSize (2 ^ 39) sums
 up_sizes k xs sums h long as_long sizes up = record {
   each = λ n lt.
       let below : n < 2 ^ k = omega arith in
@@ -126,13 +126,13 @@ up_sizes k xs sums h long as_long sizes up = record {
 }
 
 -- the two lists that a part gives
-pub sums_sizes : (k s : ℕ) (xs ys first last : List Cx) → length first ≡ 2 ^ k → length xs ≡ 2 ^ k → length ys ≡ 2 ^ k → AreOfSize s xs → AreOfSize s ys → IsPart k xs ys first last → AreOfSize (s * 3) first
+pub sums_sizes : (k s : ℕ) (xs ys first last : List Cx) → length first ≡ 2 ^ k → length xs ≡ 2 ^ k → length ys ≡ 2 ^ k → PairsOfSize s xs → PairsOfSize s ys → IsPart k xs ys first last → PairsOfSize (s * 3) first
 sums_sizes k s xs ys first last first_long xs_long ys_long xs_sizes ys_sizes part = record {
   each = λ n lt.
       rw (part.sums n (omega arith)) (wider (s + s) (s * 3) _ (omega arith) (size-plus s s (entry xs n) (entry ys n) (xs_sizes.each n (omega arith)) (ys_sizes.each n (omega arith))));
 }
 
-pub differences_sizes : (k s : ℕ) (xs ys first last : List Cx) → 4 ≤ s → length last ≡ 2 ^ k → length xs ≡ 2 ^ k → length ys ≡ 2 ^ k → AreOfSize s xs → AreOfSize s ys → IsPart k xs ys first last → AreOfSize (s * 3) last
+pub differences_sizes : (k s : ℕ) (xs ys first last : List Cx) → 4 ≤ s → length last ≡ 2 ^ k → length xs ≡ 2 ^ k → length ys ≡ 2 ^ k → PairsOfSize s xs → PairsOfSize s ys → IsPart k xs ys first last → PairsOfSize (s * 3) last
 differences_sizes k s xs ys first last above last_long xs_long ys_long xs_sizes ys_sizes part = record {
   each = λ n lt.
       rw (part.differences n (omega arith)) (wider ((s + s) + (s + s) / 1048576 + 2) (s * 3) _ (omega arith)
@@ -170,12 +170,12 @@ pow_at_least_one (suc n) = omega (arith, pow-suc 3 n, pow_at_least_one n)
 pub bound_above : (level : ℕ) → 4 ≤ 2 ^ 31 * 3 ^ (6 - level)
 bound_above level = omega (arith, pow_at_least_one (6 - level))
 
-pub sizes_wider : (a b : ℕ) (xs : List Cx) → a ≤ b → AreOfSize a xs → AreOfSize b xs
+pub sizes_wider : (a b : ℕ) (xs : List Cx) → a ≤ b → PairsOfSize a xs → PairsOfSize b xs
 sizes_wider a b xs h s = record { each = λ n lt. wider a b (entry xs n) h (s.each n lt) }
 
 -- ---- all 64 pairs
 -- in mirror order, pairs are no larger
-pub mirrored_sizes : (xs ys : List Cx) → length xs ≡ 64 → length ys ≡ 64 → ((n : ℕ) → n < 64 → entry ys n ≡ entry xs (mirror_of 6 n)) → AreOfSize (2 ^ 31) xs → AreOfSize (2 ^ 31) ys
+pub mirrored_sizes : (xs ys : List Cx) → length xs ≡ 64 → length ys ≡ 64 → ((n : ℕ) → n < 64 → entry ys n ≡ entry xs (mirror_of 6 n)) → PairsOfSize (2 ^ 31) xs → PairsOfSize (2 ^ 31) ys
 mirrored_sizes xs ys xs_long ys_long mirror s = record {
   each = λ n lt.
       rw (mirror n (omega arith)) (s.each (mirror_of 6 n) (omega (arith, mirror_of-below 6 n)));

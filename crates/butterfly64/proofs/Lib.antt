@@ -1,5 +1,3 @@
-pub mod Sizes
-pub mod TurnSizes
 pub mod StagedSizes
 pub mod Mirrors
 pub mod Halves
@@ -8,8 +6,6 @@ pub mod SumSizes
 pub mod LaneOps
 pub mod EightLanes
 pub mod PairsOfEights
-pub mod Inputs
-pub mod PlainSumLaws
 pub mod UpBudget
 pub mod DownBudget
 pub mod SampleBudgets

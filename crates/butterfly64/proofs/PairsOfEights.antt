@@ -10,12 +10,12 @@ use Rattle.fixed_complex.specs.Pairs.{zero_pair, plus, minus, conjugate, scaled_
 use Rattle.fixed_complex.specs.Turns.{turn_at}
 use Rattle.butterfly64.specs.declared.lanes.Eight.{Eight}
 use Rattle.butterfly64.specs.declared.lane_turns.TheConstants.{TURNS}
-use Rattle.butterfly64.specs.Bounds.{AreOfSize}
-use Rattle.butterfly64.specs.StagedSums.{entry, stage_turn, up_at, down_at}
+use Rattle.fixed_complex.specs.PairLists.{PairsOfSize, entry}
+use Rattle.butterfly64.specs.StagedSums.{stage_turn, up_at, down_at}
 use Rattle.butterfly64.specs.MirrorOrder.{mirror_of}
 use Rattle.butterfly64.specs.Lanes.{lane, eight_in, pairs_of, EachWithin, EachOfSize}
 use Rattle.fixed_complex.proofs.ByTable.{same_pairs, are_same}
-use Rattle.butterfly64.proofs.Sizes.{within-size, within_wider}
+use Rattle.fixed_complex.proofs.PairSizes.{within-size, within_wider}
 use Rattle.butterfly64.proofs.Mirrors.{mirror_of-below}
 use Rattle.butterfly64.proofs.Halves.{same_functions, down_at-local}
 use Rattle.butterfly64.proofs.InPlace.{mirrored, IsUp, IsDown, IsJoin, IsPart}
@@ -51,10 +51,10 @@ entry-pairs_at xs n h =
     ap (entry (pairs_of xs)) place ∙ entry-pairs_of xs (n / 8) (n % 8) (omega arith) (omega arith)
 
 -- the sizes of the pairs in lanes
-pub lanes_of_size : (s : ℕ) (xs : List Eight) (c : ℕ) → c < length xs → AreOfSize s (pairs_of xs) → EachOfSize s (eight_in xs c)
+pub lanes_of_size : (s : ℕ) (xs : List Eight) (c : ℕ) → c < length xs → PairsOfSize s (pairs_of xs) → EachOfSize s (eight_in xs c)
 lanes_of_size s xs c h sizes = record { each = λ l lt. let e = entry-pairs_of xs c l h lt in rw e at (sizes.each (8 * c + l) (omega (arith, length-pairs_of xs))) }
 
-pub lanes_within : (xs : List Eight) (c bound : ℕ) → 2 ^ 39 ≤ bound → c < length xs → AreOfSize (2 ^ 39) (pairs_of xs) → EachWithin bound (eight_in xs c)
+pub lanes_within : (xs : List Eight) (c bound : ℕ) → 2 ^ 39 ≤ bound → c < length xs → PairsOfSize (2 ^ 39) (pairs_of xs) → EachWithin bound (eight_in xs c)
 lanes_within xs c bound h below sizes = record { each = λ l lt. within_wider (2 ^ 39) bound _ h (within-size (2 ^ 39) _ ((lanes_of_size (2 ^ 39) xs c below sizes).each l lt)) }
 
 -- ---- the turns of the stages over eights

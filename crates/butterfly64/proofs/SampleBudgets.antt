@@ -4,7 +4,7 @@ use Rattle.std.specs.Prelude.{ℤ, pos, ◌+ℤ◌, ◌-ℤ◌, ◌*ℤ◌, unsi
 use Rattle.std.proofs.lemmas.Int.{ints}
 use Rattle.std.proofs.lemmas.Bool.{leb-true}
 use Rattle.fixed_complex.specs.declared.Cx.{Cx}
-use Rattle.fixed_complex.specs.Pairs.{IsWithin, IsOfSize, minus, multiple, conjugate, times}
+use Rattle.fixed_complex.specs.Pairs.{IsWithin, IsOfSize, minus, multiple, conjugate, times, rounded_pair}
 use Rattle.fixed_complex.specs.Rounding.{half_up}
 use Rattle.fixed_complex.specs.Turns.{turn_at}
 use Rattle.integer_laws.proofs.FloorDivision.{rounding_within}
@@ -12,18 +12,19 @@ use Rattle.integer_laws.proofs.Ring.{ring, ◌⊕◌, ◌⊖◌, ◌⊗◌, ◌�
 use Rattle.integer_laws.proofs.Sizes.{size_of_parts, size_of_near, size_of_rounding, size_of_unscaled}
 use Rattle.butterfly64.specs.Budgets.{budget_of, down_budget_of}
 use Rattle.butterfly64.specs.PlainSums.{plain_up, plain_down}
-use Rattle.butterfly64.specs.Samples.{by_256, rounded_pair}
+use Rattle.fixed_complex.specs.PairLists.{by_256}
 use Rattle.butterfly64.specs.StagedSums.{up_at, down_at}
-use Rattle.butterfly64.proofs.Sizes.{wider, within-size}
+use Rattle.fixed_complex.proofs.PairSizes.{wider, within-size}
 use Rattle.butterfly64.proofs.StagedSizes.{grown_by, size-down_at, six_joins}
-use Rattle.butterfly64.proofs.PlainSumLaws.{pair_of, same_sums, multiple_sum}
+use Rattle.fixed_complex.proofs.Pairs.{same_parts}
+use Rattle.fixed_complex.proofs.Sums.{same_sums, multiple_sum}
 use Rattle.butterfly64.proofs.UpBudget.{size-multiple, near_up_sums}
 use Rattle.butterfly64.proofs.DownBudget.{near_down_sums}
 
 -- a multiple in a product
 multiple_times : (c : ℤ) (x t : Cx) → times (multiple c x) t ≡ multiple c (times x t)
 unfolding times
-multiple_times c x t = pair_of _ _ (re c x.re x.im t.re t.im) (im c x.re x.im t.re t.im)
+multiple_times c x t = same_parts _ _ (re c x.re x.im t.re t.im) (im c x.re x.im t.re t.im)
   where
     re : (c x y t u : ℤ) → (c *ℤ x) *ℤ t -ℤ (c *ℤ y) *ℤ u ≡ c *ℤ (x *ℤ t -ℤ y *ℤ u)
     re = ring 5 (λ c x y t u. (c ⊗ x) ⊗ t ⊖ (c ⊗ y) ⊗ u ≗ c ⊗ (x ⊗ t ⊖ y ⊗ u)) refl
@@ -66,30 +67,28 @@ size_received r within c lt =
     record { size = size_of_near (pos 256 *ℤ back.re) (pos 256 *ℤ back.im) sum.re sum.im 256 most (size_of_rounding sum.re sum.im 128 256 (omega arith) (omega arith)) sum_size.size } in
     record { size = size_of_unscaled 256 back.re back.im (2 ^ 22) (omega arith) (wider (256 + most) (256 * 2 ^ 22) (multiple (pos 256) back) (omega arith) whole).size }
 
-module _ (whole : (m : ℕ) → turn_at (m + 64) ≡ turn_at m) (half : (m : ℕ) → turn_at (m + 32) ≡ minus (record { re = pos 0; im = pos 0 }) (turn_at m))
-    (products : (a b : ℕ) → IsOfSize 1387885 (minus (times (turn_at a) (turn_at b)) (multiple (pos 1048576) (turn_at (a + b))))) where
-  -- a sent sample is within 1 of half the sum of carriers
-  pub near_sent : (x : ℕ → Cx) → ((c : ℕ) → IsWithin 954 (x c)) → (n : ℕ) → n < 64 → IsWithin (2 ^ 21) (minus (multiple (pos 2097152) (rounded_pair 9 (up_at 6 (by_256 x) n))) (plain_up x n))
-  near_sent x within n lt =
-      let size = λ (c : ℕ). size-multiple 256 1350 (x c) (record { size = size_of_parts (x c).re (x c).im 954 954 1350 (within c).re (within c).im (omega arith) }) in
-      let sum = up_at 6 (by_256 x) n in
-      let near = rw (plain_up_by_256 x n) at (near_up_sums whole half products 345600 (by_256 x) size n lt) in
-      let parts = within-size (budget_of 6 345600) _ near in
-      let enough : budget_of 6 345600 ≤ 2 ^ 28 = leb-true (budget_of 6 345600) (2 ^ 28) refl in
-      record {
-        re = sent_part (half_up 9 sum.re) sum.re (plain_up x n).re (rounding_within sum.re 256 (omega arith)) (omega (arith, parts.re, enough));
-        im = sent_part (half_up 9 sum.im) sum.im (plain_up x n).im (rounding_within sum.im 256 (omega arith)) (omega (arith, parts.im, enough));
-      }
+-- a sent sample is within 1 of half the sum of carriers
+pub near_sent : (x : ℕ → Cx) → ((c : ℕ) → IsWithin 954 (x c)) → (n : ℕ) → n < 64 → IsWithin (2 ^ 21) (minus (multiple (pos 2097152) (rounded_pair 9 (up_at 6 (by_256 x) n))) (plain_up x n))
+near_sent x within n lt =
+    let size = λ (c : ℕ). size-multiple 256 1350 (x c) (record { size = size_of_parts (x c).re (x c).im 954 954 1350 (within c).re (within c).im (omega arith) }) in
+    let sum = up_at 6 (by_256 x) n in
+    let near = rw (plain_up_by_256 x n) at (near_up_sums 345600 (by_256 x) size n lt) in
+    let parts = within-size (budget_of 6 345600) _ near in
+    let enough : budget_of 6 345600 ≤ 2 ^ 28 = leb-true (budget_of 6 345600) (2 ^ 28) refl in
+    record {
+      re = sent_part (half_up 9 sum.re) sum.re (plain_up x n).re (rounding_within sum.re 256 (omega arith)) (omega (arith, parts.re, enough));
+      im = sent_part (half_up 9 sum.im) sum.im (plain_up x n).im (rounding_within sum.im 256 (omega arith)) (omega (arith, parts.im, enough));
+    }
 
-  -- a received carrier is within 40 of the plain sum over 2^20
-  pub near_received : (r : ℕ → Cx) → ((n : ℕ) → IsWithin 32768 (r n)) → (c : ℕ) → c < 64 → IsWithin (40 * 2 ^ 20) (minus (multiple (pos 1048576) (rounded_pair 8 (down_at 6 (by_256 r) c))) (plain_down r c))
-  near_received r within c lt =
-      let size = λ (n : ℕ). size-multiple 256 46341 (r n) (record { size = size_of_parts (r n).re (r n).im 32768 32768 46341 (within n).re (within n).im (omega arith) }) in
-      let sum = down_at 6 (by_256 r) c in
-      let near = rw (plain_down_by_256 r c) at (near_down_sums whole half products 11863296 (by_256 r) size c lt) in
-      let parts = within-size (down_budget_of 6 11863296) _ near in
-      let enough : down_budget_of 6 11863296 ≤ 39 * 2 ^ 28 = leb-true (down_budget_of 6 11863296) (39 * 2 ^ 28) refl in
-      record {
-        re = received_part (half_up 8 sum.re) sum.re (plain_down r c).re (rounding_within sum.re 128 (omega arith)) (omega (arith, parts.re, enough));
-        im = received_part (half_up 8 sum.im) sum.im (plain_down r c).im (rounding_within sum.im 128 (omega arith)) (omega (arith, parts.im, enough));
-      }
+-- a received carrier is within 40 of the plain sum over 2^20
+pub near_received : (r : ℕ → Cx) → ((n : ℕ) → IsWithin 32768 (r n)) → (c : ℕ) → c < 64 → IsWithin (40 * 2 ^ 20) (minus (multiple (pos 1048576) (rounded_pair 8 (down_at 6 (by_256 r) c))) (plain_down r c))
+near_received r within c lt =
+    let size = λ (n : ℕ). size-multiple 256 46341 (r n) (record { size = size_of_parts (r n).re (r n).im 32768 32768 46341 (within n).re (within n).im (omega arith) }) in
+    let sum = down_at 6 (by_256 r) c in
+    let near = rw (plain_down_by_256 r c) at (near_down_sums 11863296 (by_256 r) size c lt) in
+    let parts = within-size (down_budget_of 6 11863296) _ near in
+    let enough : down_budget_of 6 11863296 ≤ 39 * 2 ^ 28 = leb-true (down_budget_of 6 11863296) (39 * 2 ^ 28) refl in
+    record {
+      re = received_part (half_up 8 sum.re) sum.re (plain_down r c).re (rounding_within sum.re 128 (omega arith)) (omega (arith, parts.re, enough));
+      im = received_part (half_up 8 sum.im) sum.im (plain_down r c).im (rounding_within sum.im 128 (omega arith)) (omega (arith, parts.im, enough));
+    }

@@ -4,8 +4,8 @@ use Rattle.fixed_complex.specs.declared.Cx.{Cx}
 use Rattle.fixed_complex.specs.Pairs.{IsOfSize, plus, minus, conjugate, scaled_product}
 use Rattle.butterfly64.specs.Budgets.{grown_size}
 use Rattle.butterfly64.specs.StagedSums.{stage_turn, joined, up_at, half_sums, turned_differences, down_at}
-use Rattle.butterfly64.proofs.TurnSizes.{turn-size}
-use Rattle.butterfly64.proofs.Sizes.{wider, size-plus, size-minus, size-conjugate, size-scaled_product}
+use Rattle.fixed_complex.proofs.TurnLaws.{turn-size}
+use Rattle.fixed_complex.proofs.PairSizes.{wider, size-plus, size-minus, size-conjugate, size-scaled_product}
 
 -- and so many joins
 abbrev pub grown_by : ℕ → ℕ → ℕ

@@ -13,10 +13,12 @@ use Rattle.integer_laws.proofs.Order.{pos-le}
 use Rattle.butterfly64.specs.Budgets.{budget_of}
 use Rattle.butterfly64.specs.PlainSums.{plain_up}
 use Rattle.butterfly64.specs.StagedSums.{stage_turn, up_at}
-use Rattle.butterfly64.proofs.Sizes.{wider, size-plus, size-minus, size-times}
-use Rattle.butterfly64.proofs.TurnSizes.{turn-size}
+use Rattle.fixed_complex.proofs.PairSizes.{wider, size-plus, size-minus, size-times}
+use Rattle.fixed_complex.proofs.TurnLaws.{turn-size, turn-half, size-product_of_turns}
 use Rattle.butterfly64.proofs.Halves.{joined-first, joined-last}
-use Rattle.butterfly64.proofs.PlainSumLaws.{pair_of, same_sums, sum_even_odd, times_sum, multiple_sum, minus_sums, size-sum}
+use Rattle.fixed_complex.proofs.Pairs.{same_parts}
+use Rattle.fixed_complex.proofs.Sums.{same_sums, sum_even_odd, times_sum, multiple_sum, minus_sums, size-sum}
+use Rattle.fixed_complex.proofs.Turning.{whole_turns}
 
 -- the plain sum over 2^k places
 abbrev pub plain_at : ℕ → (ℕ → Cx) → ℕ → Cx
@@ -26,7 +28,7 @@ plain_at k x n = sum_below (2 ^ k) (λ m. times (x m) (turn_at (2 ^ (6 - k) * (m
 -- a product of three, less a multiple of another
 product_error : (w x a t : Cx) (c : ℤ) → minus (times w (times x a)) (multiple c (times x t)) ≡ times x (minus (times a w) (multiple c t))
 unfolding times
-product_error w x a t c = pair_of _ _ (re w.re w.im x.re x.im a.re a.im t.re t.im c) (im w.re w.im x.re x.im a.re a.im t.re t.im c)
+product_error w x a t c = same_parts _ _ (re w.re w.im x.re x.im a.re a.im t.re t.im c) (im w.re w.im x.re x.im a.re a.im t.re t.im c)
   where
     re : (p q x y a b t u c : ℤ) → (p *ℤ (x *ℤ a -ℤ y *ℤ b) -ℤ q *ℤ (x *ℤ b +ℤ y *ℤ a)) -ℤ c *ℤ (x *ℤ t -ℤ y *ℤ u) ≡ x *ℤ ((a *ℤ p -ℤ b *ℤ q) -ℤ c *ℤ t) -ℤ y *ℤ ((a *ℤ q +ℤ b *ℤ p) -ℤ c *ℤ u)
     re = ring 9 (λ p q x y a b t u c. (p ⊗ (x ⊗ a ⊖ y ⊗ b) ⊖ q ⊗ (x ⊗ b ⊕ y ⊗ a)) ⊖ c ⊗ (x ⊗ t ⊖ y ⊗ u) ≗ x ⊗ ((a ⊗ p ⊖ b ⊗ q) ⊖ c ⊗ t) ⊖ y ⊗ ((a ⊗ q ⊕ b ⊗ p) ⊖ c ⊗ u)) refl
@@ -37,7 +39,7 @@ product_error w x a t c = pair_of _ _ (re w.re w.im x.re x.im a.re a.im t.re t.i
 -- the error of a turned sum, by way of the turned sum and of the turned plain sum
 turned_error : (c : ℤ) (w o b t s : Cx) → multiple c (minus (multiple c t) s) ≡ plus (plus (multiple c (minus (multiple c t) (times w o))) (times w (minus (multiple c o) b))) (minus (times w b) (multiple c s))
 unfolding times
-turned_error c w o b t s = pair_of _ _ (re c w.re w.im o.re o.im b.re b.im t.re s.re) (im c w.re w.im o.re o.im b.re b.im t.im s.im)
+turned_error c w o b t s = same_parts _ _ (re c w.re w.im o.re o.im b.re b.im t.re s.re) (im c w.re w.im o.re o.im b.re b.im t.im s.im)
   where
     re : (c p q o v b d t s : ℤ) → c *ℤ (c *ℤ t -ℤ s) ≡ (c *ℤ (c *ℤ t -ℤ (p *ℤ o -ℤ q *ℤ v)) +ℤ (p *ℤ (c *ℤ o -ℤ b) -ℤ q *ℤ (c *ℤ v -ℤ d))) +ℤ ((p *ℤ b -ℤ q *ℤ d) -ℤ c *ℤ s)
     re = ring 9 (λ c p q o v b d t s. c ⊗ (c ⊗ t ⊖ s) ≗ (c ⊗ (c ⊗ t ⊖ (p ⊗ o ⊖ q ⊗ v)) ⊕ (p ⊗ (c ⊗ o ⊖ b) ⊖ q ⊗ (c ⊗ v ⊖ d))) ⊕ ((p ⊗ b ⊖ q ⊗ d) ⊖ c ⊗ s)) refl
@@ -47,13 +49,13 @@ turned_error c w o b t s = pair_of _ _ (re c w.re w.im o.re o.im b.re b.im t.re 
 
 -- errors of a sum and of a difference
 sum_error : (c : ℤ) (e t a s : Cx) → minus (multiple c (plus e t)) (plus a s) ≡ plus (minus (multiple c e) a) (minus (multiple c t) s)
-sum_error c e t a s = pair_of _ _ (law c e.re t.re a.re s.re) (law c e.im t.im a.im s.im)
+sum_error c e t a s = same_parts _ _ (law c e.re t.re a.re s.re) (law c e.im t.im a.im s.im)
   where
     law : (c e t a s : ℤ) → c *ℤ (e +ℤ t) -ℤ (a +ℤ s) ≡ (c *ℤ e -ℤ a) +ℤ (c *ℤ t -ℤ s)
     law = ring 5 (λ c e t a s. c ⊗ (e ⊕ t) ⊖ (a ⊕ s) ≗ (c ⊗ e ⊖ a) ⊕ (c ⊗ t ⊖ s)) refl
 
 difference_error : (c : ℤ) (e t a s : Cx) → minus (multiple c (minus e t)) (minus a s) ≡ minus (minus (multiple c e) a) (minus (multiple c t) s)
-difference_error c e t a s = pair_of _ _ (law c e.re t.re a.re s.re) (law c e.im t.im a.im s.im)
+difference_error c e t a s = same_parts _ _ (law c e.re t.re a.re s.re) (law c e.im t.im a.im s.im)
   where
     law : (c e t a s : ℤ) → c *ℤ (e -ℤ t) -ℤ (a -ℤ s) ≡ (c *ℤ e -ℤ a) -ℤ (c *ℤ t -ℤ s)
     law = ring 5 (λ c e t a s. c ⊗ (e ⊖ t) ⊖ (a ⊖ s) ≗ (c ⊗ e ⊖ a) ⊖ (c ⊗ t ⊖ s)) refl
@@ -124,7 +126,7 @@ plain_first k x j h =
 -- a product with a turn that is half a turn further, and a sum with what is negated
 times_opposite : (x t : Cx) → times x (minus zero_pair t) ≡ multiple (negsuc 0) (times x t)
 unfolding times
-times_opposite x t = pair_of _ _ (re x.re x.im t.re t.im) (im x.re x.im t.re t.im)
+times_opposite x t = same_parts _ _ (re x.re x.im t.re t.im) (im x.re x.im t.re t.im)
   where
     re : (x y t u : ℤ) → x *ℤ (pos 0 -ℤ t) -ℤ y *ℤ (pos 0 -ℤ u) ≡ negsuc 0 *ℤ (x *ℤ t -ℤ y *ℤ u)
     re = ring 4 (λ x y t u. x ⊗ (number (pos 0) ⊖ t) ⊖ y ⊗ (number (pos 0) ⊖ u) ≗ number (negsuc 0) ⊗ (x ⊗ t ⊖ y ⊗ u)) refl
@@ -133,7 +135,7 @@ times_opposite x t = pair_of _ _ (re x.re x.im t.re t.im) (im x.re x.im t.re t.i
     im = ring 4 (λ x y t u. x ⊗ (number (pos 0) ⊖ u) ⊕ y ⊗ (number (pos 0) ⊖ t) ≗ number (negsuc 0) ⊗ (x ⊗ u ⊕ y ⊗ t)) refl
 
 plus_opposite : (a s : Cx) → plus a (multiple (negsuc 0) s) ≡ minus a s
-plus_opposite a s = pair_of _ _ (law a.re s.re) (law a.im s.im)
+plus_opposite a s = same_parts _ _ (law a.re s.re) (law a.im s.im)
   where
     law : (a s : ℤ) → a +ℤ negsuc 0 *ℤ s ≡ a -ℤ s
     law = ring 2 (λ a s. a ⊕ number (negsuc 0) ⊗ s ≗ a ⊖ s) refl
@@ -141,7 +143,7 @@ plus_opposite a s = pair_of _ _ (law a.re s.re) (law a.im s.im)
 -- one pair is its own sum
 pub one_pair : (x : Cx) → minus (multiple (pos 1048576) x) (plus zero_pair (times x (record { re = pos 1048576; im = pos 0 }))) ≡ zero_pair
 unfolding times
-one_pair x = pair_of _ _ (re x.re x.im) (im x.re x.im)
+one_pair x = same_parts _ _ (re x.re x.im) (im x.re x.im)
   where
     re : (x y : ℤ) → pos 1048576 *ℤ x -ℤ (pos 0 +ℤ (x *ℤ pos 1048576 -ℤ y *ℤ pos 0)) ≡ pos 0
     re = ring 2 (λ x y. number (pos 1048576) ⊗ x ⊖ (number (pos 0) ⊕ (x ⊗ number (pos 1048576) ⊖ y ⊗ number (pos 0))) ≗ number (pos 0)) refl
@@ -156,63 +158,57 @@ near_one x n =
     rw (place, one_pair (x 0)) (record { size = pos-le 0 0 (omega arith) })
 
 -- ---- from the laws of turns
-module _ (whole : (m : ℕ) → turn_at (m + 64) ≡ turn_at m) (half : (m : ℕ) → turn_at (m + 32) ≡ minus zero_pair (turn_at m))
-    (products : (a b : ℕ) → IsOfSize 1387885 (minus (times (turn_at a) (turn_at b)) (multiple (pos 1048576) (turn_at (a + b))))) where
-  pub whole_turns : (a p : ℕ) → turn_at (a + 64 * p) ≡ turn_at a
-  whole_turns a zero = let e : a + 64 * 0 ≡ a = omega arith in ap turn_at e
-  whole_turns a (suc p) = let e : a + 64 * suc p ≡ (a + 64 * p) + 64 = omega arith in ap turn_at e ∙ whole (a + 64 * p) ∙ whole_turns a p
+plain_last : (k : ℕ) (x : ℕ → Cx) (j : ℕ) → k < 6 → plain_at (suc k) x (2 ^ k + j) ≡ minus (plain_at k (λ m. x (2 * m)) j) (turned_plain k (λ m. x (2 * m + 1)) j)
+plain_last k x j h =
+    let q = 2 ^ (6 - k) in
+    let s = 2 ^ (5 - k) in
+    halves k x (2 ^ k + j) h
+    ∙ ap (λ t. plus t (sum_below (2 ^ k) (λ m. times (x (2 * m + 1)) (turn_at (s * ((2 * m + 1) * (2 ^ k + j)))))))
+    (same_sums _ _ (λ m. ap (times (x (2 * m))) (ap turn_at (even_place_on s q m (2 ^ k) j (double_step k h) (half_turn k h)) ∙ whole_turns (q * (m * j)) m)) (2 ^ k))
+    ∙ ap (plus (plain_at k (λ m. x (2 * m)) j))
+    (same_sums _ (λ m. multiple (negsuc 0) (times (x (2 * m + 1)) (turn_at (q * (m * j) + s * j)))) (λ m.
+    ap (times (x (2 * m + 1))) (ap turn_at (odd_place_on s q m (2 ^ k) j (double_step k h) (half_turn k h)) ∙ turn-half (q * (m * j) + s * j + 64 * m) ∙ ap (minus zero_pair) (whole_turns (q * (m * j) + s * j) m))
+    ∙ times_opposite (x (2 * m + 1)) (turn_at (q * (m * j) + s * j))) (2 ^ k)
+    ∙ sym (multiple_sum (negsuc 0) (2 ^ k) (λ m. times (x (2 * m + 1)) (turn_at (q * (m * j) + s * j)))))
+    ∙ plus_opposite (plain_at k (λ m. x (2 * m)) j) (turned_plain k (λ m. x (2 * m + 1)) j)
 
-  plain_last : (k : ℕ) (x : ℕ → Cx) (j : ℕ) → k < 6 → plain_at (suc k) x (2 ^ k + j) ≡ minus (plain_at k (λ m. x (2 * m)) j) (turned_plain k (λ m. x (2 * m + 1)) j)
-  plain_last k x j h =
-      let q = 2 ^ (6 - k) in
-      let s = 2 ^ (5 - k) in
-      halves k x (2 ^ k + j) h
-      ∙ ap (λ t. plus t (sum_below (2 ^ k) (λ m. times (x (2 * m + 1)) (turn_at (s * ((2 * m + 1) * (2 ^ k + j)))))))
-      (same_sums _ _ (λ m. ap (times (x (2 * m))) (ap turn_at (even_place_on s q m (2 ^ k) j (double_step k h) (half_turn k h)) ∙ whole_turns (q * (m * j)) m)) (2 ^ k))
-      ∙ ap (plus (plain_at k (λ m. x (2 * m)) j))
-      (same_sums _ (λ m. multiple (negsuc 0) (times (x (2 * m + 1)) (turn_at (q * (m * j) + s * j)))) (λ m.
-      ap (times (x (2 * m + 1))) (ap turn_at (odd_place_on s q m (2 ^ k) j (double_step k h) (half_turn k h)) ∙ half (q * (m * j) + s * j + 64 * m) ∙ ap (minus zero_pair) (whole_turns (q * (m * j) + s * j) m))
-      ∙ times_opposite (x (2 * m + 1)) (turn_at (q * (m * j) + s * j))) (2 ^ k)
-      ∙ sym (multiple_sum (negsuc 0) (2 ^ k) (λ m. times (x (2 * m + 1)) (turn_at (q * (m * j) + s * j)))))
-      ∙ plus_opposite (plain_at k (λ m. x (2 * m)) j) (turned_plain k (λ m. x (2 * m + 1)) j)
+-- the errors of the table in a turned plain sum
+table_size : (k size : ℕ) (y : ℕ → Cx) (j : ℕ) → ((m : ℕ) → IsOfSize size (y m)) → IsOfSize (2 ^ k * (size * 1387885)) (minus (times (stage_turn k j) (plain_at k y j)) (multiple (pos 1048576) (turned_plain k y j)))
+table_size k size y j h =
+    let w = stage_turn k j in
+    let place = λ (m : ℕ). 2 ^ (6 - k) * (m * j) in
+    let same : minus (times w (plain_at k y j)) (multiple (pos 1048576) (turned_plain k y j)) ≡ sum_below (2 ^ k) (λ m. times (y m) (minus (times (turn_at (place m)) w) (multiple (pos 1048576) (turn_at (place m + 2 ^ (5 - k) * j))))) =
+    ap (λ a. minus a (multiple (pos 1048576) (turned_plain k y j))) (times_sum w (2 ^ k) (λ m. times (y m) (turn_at (place m))))
+    ∙ ap (minus (sum_below (2 ^ k) (λ m. times w (times (y m) (turn_at (place m)))))) (multiple_sum (pos 1048576) (2 ^ k) (λ m. times (y m) (turn_at (place m + 2 ^ (5 - k) * j))))
+    ∙ minus_sums (2 ^ k) (λ m. times w (times (y m) (turn_at (place m)))) (λ m. multiple (pos 1048576) (times (y m) (turn_at (place m + 2 ^ (5 - k) * j))))
+    ∙ same_sums _ _ (λ m. product_error w (y m) (turn_at (place m)) (turn_at (place m + 2 ^ (5 - k) * j)) (pos 1048576)) (2 ^ k) in
+    rw same (size-sum (2 ^ k) (size * 1387885) _ (λ m. size-times size 1387885 (y m) _ (h m) (size-product_of_turns (place m) (2 ^ (5 - k) * j))))
 
-  -- the errors of the table in a turned plain sum
-  table_size : (k size : ℕ) (y : ℕ → Cx) (j : ℕ) → ((m : ℕ) → IsOfSize size (y m)) → IsOfSize (2 ^ k * (size * 1387885)) (minus (times (stage_turn k j) (plain_at k y j)) (multiple (pos 1048576) (turned_plain k y j)))
-  table_size k size y j h =
-      let w = stage_turn k j in
-      let place = λ (m : ℕ). 2 ^ (6 - k) * (m * j) in
-      let same : minus (times w (plain_at k y j)) (multiple (pos 1048576) (turned_plain k y j)) ≡ sum_below (2 ^ k) (λ m. times (y m) (minus (times (turn_at (place m)) w) (multiple (pos 1048576) (turn_at (place m + 2 ^ (5 - k) * j))))) =
-      ap (λ a. minus a (multiple (pos 1048576) (turned_plain k y j))) (times_sum w (2 ^ k) (λ m. times (y m) (turn_at (place m))))
-      ∙ ap (minus (sum_below (2 ^ k) (λ m. times w (times (y m) (turn_at (place m)))))) (multiple_sum (pos 1048576) (2 ^ k) (λ m. times (y m) (turn_at (place m + 2 ^ (5 - k) * j))))
-      ∙ minus_sums (2 ^ k) (λ m. times w (times (y m) (turn_at (place m)))) (λ m. multiple (pos 1048576) (times (y m) (turn_at (place m + 2 ^ (5 - k) * j))))
-      ∙ same_sums _ _ (λ m. product_error w (y m) (turn_at (place m)) (turn_at (place m + 2 ^ (5 - k) * j)) (pos 1048576)) (2 ^ k) in
-      rw same (size-sum (2 ^ k) (size * 1387885) _ (λ m. size-times size 1387885 (y m) _ (h m) (products (place m) (2 ^ (5 - k) * j))))
+-- join by join
+pub near_up : (k size : ℕ) (x : ℕ → Cx) → k ≤ 6 → ((m : ℕ) → IsOfSize size (x m)) → (n : ℕ) → n < 2 ^ k → IsOfSize (budget_of k size) (minus (multiple (pos 1048576) (up_at k x n)) (plain_at k x n))
+unfolding up_at
+near_up zero size x k_below h n lt = near_one x n
+near_up (suc k) size x k_below h n lt =
+    let even = λ (m : ℕ). x (2 * m) in
+    let odd = λ (m : ℕ). x (2 * m + 1) in
+    let b = budget_of k size in
+    let turned = λ (j : ℕ) (j_lt : j < 2 ^ k). turned_size b (2 ^ k * (size * 1387885)) (stage_turn k j) (up_at k odd j) (plain_at k odd j) (scaled_product (stage_turn k j) (up_at k odd j)) (turned_plain k odd j)
+    (turn-size (2 ^ (5 - k) * j)) (rounding_size (stage_turn k j) (up_at k odd j)) (near_up k size odd (omega arith) (λ m. h (2 * m + 1)) j j_lt) (table_size k size odd j (λ m. h (2 * m + 1))) in
+    let below : k < 6 = omega arith in
+    elim (cases_lt n (2 ^ k)) [
+      | inl here ↦
+          rw (joined-first k (up_at k even) (up_at k odd) n here, plain_first k x n below, sum_error (pos 1048576) (up_at k even n) (scaled_product (stage_turn k n) (up_at k odd n)) (plain_at k even n) (turned_plain k odd n))
+          (size-plus b (b + b / 1048576 + 2 ^ k * (size * 1387885) / 1048576 + 741458) _ _ (near_up k size even (omega arith) (λ m. h (2 * m)) n here) (turned n here))
+      | inr there ↦
+          let j = n - 2 ^ k in
+          let j_lt : j < 2 ^ k = omega (arith, pow-suc 2 k) in
+          let place : n ≡ 2 ^ k + j = omega arith in
+          rw (place, joined-last k (up_at k even) (up_at k odd) j j_lt, plain_last k x j below, difference_error (pos 1048576) (up_at k even j) (scaled_product (stage_turn k j) (up_at k odd j)) (plain_at k even j) (turned_plain k odd j))
+          (size-minus b (b + b / 1048576 + 2 ^ k * (size * 1387885) / 1048576 + 741458) _ _ (near_up k size even (omega arith) (λ m. h (2 * m)) j j_lt) (turned j j_lt))
+    ]
 
-  -- join by join
-  pub near_up : (k size : ℕ) (x : ℕ → Cx) → k ≤ 6 → ((m : ℕ) → IsOfSize size (x m)) → (n : ℕ) → n < 2 ^ k → IsOfSize (budget_of k size) (minus (multiple (pos 1048576) (up_at k x n)) (plain_at k x n))
-  unfolding up_at
-  near_up zero size x k_below h n lt = near_one x n
-  near_up (suc k) size x k_below h n lt =
-      let even = λ (m : ℕ). x (2 * m) in
-      let odd = λ (m : ℕ). x (2 * m + 1) in
-      let b = budget_of k size in
-      let turned = λ (j : ℕ) (j_lt : j < 2 ^ k). turned_size b (2 ^ k * (size * 1387885)) (stage_turn k j) (up_at k odd j) (plain_at k odd j) (scaled_product (stage_turn k j) (up_at k odd j)) (turned_plain k odd j)
-      (turn-size (2 ^ (5 - k) * j)) (rounding_size (stage_turn k j) (up_at k odd j)) (near_up k size odd (omega arith) (λ m. h (2 * m + 1)) j j_lt) (table_size k size odd j (λ m. h (2 * m + 1))) in
-      let below : k < 6 = omega arith in
-      elim (cases_lt n (2 ^ k)) [
-        | inl here ↦
-            rw (joined-first k (up_at k even) (up_at k odd) n here, plain_first k x n below, sum_error (pos 1048576) (up_at k even n) (scaled_product (stage_turn k n) (up_at k odd n)) (plain_at k even n) (turned_plain k odd n))
-            (size-plus b (b + b / 1048576 + 2 ^ k * (size * 1387885) / 1048576 + 741458) _ _ (near_up k size even (omega arith) (λ m. h (2 * m)) n here) (turned n here))
-        | inr there ↦
-            let j = n - 2 ^ k in
-            let j_lt : j < 2 ^ k = omega (arith, pow-suc 2 k) in
-            let place : n ≡ 2 ^ k + j = omega arith in
-            rw (place, joined-last k (up_at k even) (up_at k odd) j j_lt, plain_last k x j below, difference_error (pos 1048576) (up_at k even j) (scaled_product (stage_turn k j) (up_at k odd j)) (plain_at k even j) (turned_plain k odd j))
-            (size-minus b (b + b / 1048576 + 2 ^ k * (size * 1387885) / 1048576 + 741458) _ _ (near_up k size even (omega arith) (λ m. h (2 * m)) j j_lt) (turned j j_lt))
-      ]
-
-  -- all 64
-  pub near_up_sums : (size : ℕ) (x : ℕ → Cx) → ((m : ℕ) → IsOfSize size (x m)) → (n : ℕ) → n < 64 → IsOfSize (budget_of 6 size) (minus (multiple (pos 1048576) (up_at 6 x n)) (plain_up x n))
-  near_up_sums size x h n lt =
-      let same : plain_at 6 x n ≡ plain_up x n = same_sums _ _ (λ m. let one : 1 * (m * n) ≡ m * n = omega arith in ap (λ p. times (x m) (turn_at p)) one) 64 in
-      rw same at (near_up 6 size x (omega arith) h n lt)
+-- all 64
+pub near_up_sums : (size : ℕ) (x : ℕ → Cx) → ((m : ℕ) → IsOfSize size (x m)) → (n : ℕ) → n < 64 → IsOfSize (budget_of 6 size) (minus (multiple (pos 1048576) (up_at 6 x n)) (plain_up x n))
+near_up_sums size x h n lt =
+    let same : plain_at 6 x n ≡ plain_up x n = same_sums _ _ (λ m. let one : 1 * (m * n) ≡ m * n = omega arith in ap (λ p. times (x m) (turn_at p)) one) 64 in
+    rw same at (near_up 6 size x (omega arith) h n lt)

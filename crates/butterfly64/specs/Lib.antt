@@ -1,7 +1,5 @@
-pub mod Samples
 pub mod StagedSums
 pub mod PlainSums
 pub mod MirrorOrder
-pub mod Bounds
 pub mod Budgets
 pub mod Lanes

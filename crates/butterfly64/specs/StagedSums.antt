@@ -4,10 +4,7 @@ use Rattle.std.specs.List.{range_with_len}
 use Rattle.fixed_complex.specs.declared.Cx.{Cx}
 use Rattle.fixed_complex.specs.Pairs.{zero_pair, plus, minus, conjugate, scaled_product}
 use Rattle.fixed_complex.specs.Turns.{turn_at}
-
--- the entry of a list at a place
-abbrev pub entry : List Cx → ℕ → Cx
-entry xs n = slice_index_or xs n zero_pair
+use Rattle.fixed_complex.specs.PairLists.{entry}
 
 -- the turn of place j, for lists of 2^(k + 1): T[64 * j / 2^(k + 1)]
 abbrev pub stage_turn : ℕ → ℕ → Cx

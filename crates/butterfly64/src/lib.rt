@@ -4,8 +4,8 @@
 ghost use Rattle.std.specs.Prelude.{◌≡◌, ℕ, ◌+◌, ◌-◌, ◌*◌, ◌^◌, ◌<◌, ◌≤◌, length};
 ghost use Rattle.fixed_complex.specs.Pairs.{IsOfSize, conjugate, plus, minus, scaled_product};
 ghost use Rattle.fixed_complex.specs.Turns.{turn_at};
-ghost use Rattle.butterfly64.specs.StagedSums.{entry, up_at, down_at, up_sums, down_sums};
-ghost use Rattle.butterfly64.specs.Bounds.{AreWithin, AreOfSize};
+ghost use Rattle.butterfly64.specs.StagedSums.{up_at, down_at, up_sums, down_sums};
+ghost use Rattle.fixed_complex.specs.PairLists.{entry, PairsWithin, PairsOfSize};
 ghost use Rattle.butterfly64.specs.MirrorOrder.{mirror_of};
 
 mod eights;
@@ -20,10 +20,10 @@ use fixed_complex::{Cx, add, conj, scaled, sub, turn};
 /// The staged sums `up` of 64 pairs whose components are at most 2^30 in size: at place n about the sum over c of
 /// x(c) * T[c*n] / 2^20, rounded at each of six joins (own). Works in lanes. Takes no memory.
 pub fn up(x: &[Cx; 64]) -> [Cx; 64]
-    requires { AreWithin (2 ^ 30) x.now }
+    requires { PairsWithin (2 ^ 30) x.now }
     ensures sums { result ≡ up_sums x.now }
-    ensures sizes { (a : ℕ) → a ≤ 2 ^ 31 → AreOfSize a x.now → AreOfSize (65 * a + 256) result }
-    ensures within { AreWithin (2 ^ 40 - 1) result }
+    ensures sizes { (a : ℕ) → a ≤ 2 ^ 31 → PairsOfSize a x.now → PairsOfSize (65 * a + 256) result }
+    ensures within { PairsWithin (2 ^ 40 - 1) result }
 {
     let mut sums = eights(&in_mirror_order(x));
     up_eights(&mut sums, 3);
@@ -33,10 +33,10 @@ pub fn up(x: &[Cx; 64]) -> [Cx; 64]
 /// The staged sums `down` of 64 pairs whose components are at most 2^30 in size: at place c about the sum over n of
 /// x(n) * conj T[c*n] / 2^20, rounded at each of six joins (own). Works in lanes. Takes no memory.
 pub fn down(x: &[Cx; 64]) -> [Cx; 64]
-    requires { AreWithin (2 ^ 30) x.now }
+    requires { PairsWithin (2 ^ 30) x.now }
     ensures sums { result ≡ down_sums x.now }
-    ensures sizes { (a : ℕ) → a ≤ 2 ^ 31 → AreOfSize a x.now → AreOfSize (65 * a + 256) result }
-    ensures within { AreWithin (2 ^ 40 - 1) result }
+    ensures sizes { (a : ℕ) → a ≤ 2 ^ 31 → PairsOfSize a x.now → PairsOfSize (65 * a + 256) result }
+    ensures within { PairsWithin (2 ^ 40 - 1) result }
 {
     let mut sums = eights(x);
     down_eights(&mut sums, 3);
@@ -45,10 +45,10 @@ pub fn down(x: &[Cx; 64]) -> [Cx; 64]
 
 /// The same as `up`, pair by pair without lanes. Takes no memory.
 pub fn up_scalar(x: &[Cx; 64]) -> [Cx; 64]
-    requires { AreWithin (2 ^ 30) x.now }
+    requires { PairsWithin (2 ^ 30) x.now }
     ensures sums { result ≡ up_sums x.now }
-    ensures sizes { (a : ℕ) → a ≤ 2 ^ 31 → AreOfSize a x.now → AreOfSize (65 * a + 256) result }
-    ensures within { AreWithin (2 ^ 40 - 1) result }
+    ensures sizes { (a : ℕ) → a ≤ 2 ^ 31 → PairsOfSize a x.now → PairsOfSize (65 * a + 256) result }
+    ensures within { PairsWithin (2 ^ 40 - 1) result }
 {
     let mut sums = in_mirror_order(x);
     up_in_place(&mut sums, 6);
@@ -57,10 +57,10 @@ pub fn up_scalar(x: &[Cx; 64]) -> [Cx; 64]
 
 /// The same as `down`, pair by pair without lanes. Takes no memory.
 pub fn down_scalar(x: &[Cx; 64]) -> [Cx; 64]
-    requires { AreWithin (2 ^ 30) x.now }
+    requires { PairsWithin (2 ^ 30) x.now }
     ensures sums { result ≡ down_sums x.now }
-    ensures sizes { (a : ℕ) → a ≤ 2 ^ 31 → AreOfSize a x.now → AreOfSize (65 * a + 256) result }
-    ensures within { AreWithin (2 ^ 40 - 1) result }
+    ensures sizes { (a : ℕ) → a ≤ 2 ^ 31 → PairsOfSize a x.now → PairsOfSize (65 * a + 256) result }
+    ensures within { PairsWithin (2 ^ 40 - 1) result }
 {
     let mut sums = *x;
     down_in_place(&mut sums, 6);
@@ -91,7 +91,7 @@ fn mirror(place: usize) -> usize
 fn up_in_place(x: &mut [Cx], level: usize)
     requires level { level ≤ 6 }
     requires length { length x.old ≡ 2 ^ level }
-    requires sizes { AreOfSize (2 ^ 31) x.old }
+    requires sizes { PairsOfSize (2 ^ 31) x.old }
     ensures { (n : ℕ) → n < 2 ^ level → entry x.new n ≡ up_at level (λ m. entry x.old (mirror_of level m)) n }
 {
     if level > 0 {
@@ -107,7 +107,7 @@ fn up_in_place(x: &mut [Cx], level: usize)
 fn down_in_place(x: &mut [Cx], level: usize)
     requires level { level ≤ 6 }
     requires length { length x.old ≡ 2 ^ level }
-    requires sizes { AreOfSize (2 ^ 31 * 3 ^ (6 - level)) x.old }
+    requires sizes { PairsOfSize (2 ^ 31 * 3 ^ (6 - level)) x.old }
     ensures { (n : ℕ) → n < 2 ^ level → entry x.new (mirror_of level n) ≡ down_at level (entry x.old) n }
 {
     if level > 0 {
@@ -123,8 +123,8 @@ fn down_in_place(x: &mut [Cx], level: usize)
 fn join(evens: &mut [Cx], odds: &mut [Cx], step: usize)
     requires lengths { length evens.old ≡ length odds.old }
     requires step { step * length evens.old ≤ 64 }
-    requires evens { AreOfSize (2 ^ 39) evens.old }
-    requires odds { AreOfSize (2 ^ 39) odds.old }
+    requires evens { PairsOfSize (2 ^ 39) evens.old }
+    requires odds { PairsOfSize (2 ^ 39) odds.old }
     ensures first { (j : ℕ) → j < length evens.old → entry evens.new j
         ≡ plus (entry evens.old j) (scaled_product (turn_at (step * j)) (entry odds.old j)) }
     ensures last { (j : ℕ) → j < length odds.old → entry odds.new j
@@ -141,8 +141,8 @@ fn join(evens: &mut [Cx], odds: &mut [Cx], step: usize)
 fn part(first: &mut [Cx], last: &mut [Cx], step: usize)
     requires lengths { length first.old ≡ length last.old }
     requires step { step * length first.old ≤ 64 }
-    requires first { AreOfSize (2 ^ 39) first.old }
-    requires last { AreOfSize (2 ^ 39) last.old }
+    requires first { PairsOfSize (2 ^ 39) first.old }
+    requires last { PairsOfSize (2 ^ 39) last.old }
     ensures sums { (j : ℕ) → j < length first.old → entry first.new j
         ≡ plus (entry first.old j) (entry last.old j) }
     ensures differences { (j : ℕ) → j < length last.old → entry last.new j

@@ -1,10 +1,10 @@
 // The stages of the transform over eights of pairs.
 ghost use Rattle.std.specs.Prelude.{◌≡◌, ℕ, ◌+◌, ◌-◌, ◌*◌, ◌^◌, ◌<◌, ◌≤◌, length};
 ghost use Rattle.fixed_complex.specs.Pairs.{conjugate, minus, plus, scaled_product};
-ghost use Rattle.butterfly64.specs.Bounds.{AreOfSize};
+ghost use Rattle.fixed_complex.specs.PairLists.{PairsOfSize, entry};
 ghost use Rattle.butterfly64.specs.Lanes.{eight_in, lane, pairs_of};
 ghost use Rattle.butterfly64.specs.MirrorOrder.{mirror_of};
-ghost use Rattle.butterfly64.specs.StagedSums.{down_at, entry, up_at};
+ghost use Rattle.butterfly64.specs.StagedSums.{down_at, up_at};
 
 use crate::eights::{down_eight, up_eight};
 use crate::lane_turns::TURNS;
@@ -15,7 +15,7 @@ use fixed_complex::Cx;
 pub(crate) fn up_eights(x: &mut [Eight], level: usize)
     requires level { level ≤ 3 }
     requires length { length x.old ≡ 2 ^ level }
-    requires sizes { AreOfSize (2 ^ 31) (pairs_of x.old) }
+    requires sizes { PairsOfSize (2 ^ 31) (pairs_of x.old) }
     ensures { (n : ℕ) → n < 2 ^ (level + 3) → entry (pairs_of x.new) n
         ≡ up_at (level + 3) (λ m. entry (pairs_of x.old) (mirror_of (level + 3) m)) n }
 {
@@ -34,7 +34,7 @@ pub(crate) fn up_eights(x: &mut [Eight], level: usize)
 pub(crate) fn down_eights(x: &mut [Eight], level: usize)
     requires level { level ≤ 3 }
     requires length { length x.old ≡ 2 ^ level }
-    requires sizes { AreOfSize (2 ^ 31 * 3 ^ (3 - level)) (pairs_of x.old) }
+    requires sizes { PairsOfSize (2 ^ 31 * 3 ^ (3 - level)) (pairs_of x.old) }
     ensures { (n : ℕ) → n < 2 ^ (level + 3) → entry (pairs_of x.new) (mirror_of (level + 3) n)
         ≡ down_at (level + 3) (entry (pairs_of x.old)) n }
 {
@@ -53,8 +53,8 @@ pub(crate) fn down_eights(x: &mut [Eight], level: usize)
 fn join_eights(evens: &mut [Eight], odds: &mut [Eight])
     requires most { length evens.old ≤ 4 }
     requires lengths { length evens.old ≡ length odds.old }
-    requires evens { AreOfSize (2 ^ 39) (pairs_of evens.old) }
-    requires odds { AreOfSize (2 ^ 39) (pairs_of odds.old) }
+    requires evens { PairsOfSize (2 ^ 39) (pairs_of evens.old) }
+    requires odds { PairsOfSize (2 ^ 39) (pairs_of odds.old) }
     ensures sums { (c l : ℕ) → c < length evens.old → l < 8 → lane (eight_in evens.new c) l
         ≡ plus (lane (eight_in evens.old c) l)
         (scaled_product (lane (eight_in TURNS (length evens.old + 2 + c)) l) (lane (eight_in odds.old c) l)) }
@@ -74,8 +74,8 @@ fn join_eights(evens: &mut [Eight], odds: &mut [Eight])
 fn part_eights(first: &mut [Eight], last: &mut [Eight])
     requires most { length first.old ≤ 4 }
     requires lengths { length first.old ≡ length last.old }
-    requires first { AreOfSize (2 ^ 39) (pairs_of first.old) }
-    requires last { AreOfSize (2 ^ 39) (pairs_of last.old) }
+    requires first { PairsOfSize (2 ^ 39) (pairs_of first.old) }
+    requires last { PairsOfSize (2 ^ 39) (pairs_of last.old) }
     ensures sums { (c l : ℕ) → c < length first.old → l < 8 → lane (eight_in first.new c) l
         ≡ plus (lane (eight_in first.old c) l) (lane (eight_in last.old c) l) }
     ensures differences { (c l : ℕ) → c < length last.old → l < 8 → lane (eight_in last.new c) l

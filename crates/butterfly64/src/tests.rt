@@ -1,13 +1,13 @@
 // The transform in lanes beside the one without, and beside sums that were computed elsewhere.
 ghost use Rattle.std.specs.Prelude.{◌^◌, ◌<◌, ◌≤◌, unsigned_abs};
-ghost use Rattle.butterfly64.specs.Bounds.{AreWithin};
+ghost use Rattle.fixed_complex.specs.PairLists.{PairsWithin};
 
 use super::*;
 
 // Zeros, with one entry.
 fn one_entry(place: usize) -> [Cx; 64]
     requires { place < 64 }
-    ensures { AreWithin (2 ^ 30) result }
+    ensures { PairsWithin (2 ^ 30) result }
 {
     let mut x = [Cx { re: 0, im: 0 }; 64];
     x[place] = Cx {
@@ -19,7 +19,7 @@ fn one_entry(place: usize) -> [Cx; 64]
 
 // Entries spread from -2^30 to 2^30.
 fn spread_entries() -> [Cx; 64]
-    ensures { AreWithin (2 ^ 30) result }
+    ensures { PairsWithin (2 ^ 30) result }
 {
     let mut x = [Cx { re: 0, im: 0 }; 64];
     for n in 0..64usize {

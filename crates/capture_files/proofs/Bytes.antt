@@ -10,8 +10,10 @@ use Rattle.std.proofs.Math.Facts.{Fits-of_z}
 use Rattle.std.proofs.Math.Seq.{take-add}
 use Rattle.byteorder.specs.Endian.{little_number}
 use Rattle.fixed_complex.specs.declared.Sample.{Sample}
-use Rattle.capture_files.specs.Captures.{AreSamples, IsSample, bytes_of_component, bytes_of_sample, bytes_of_samples}
+use Rattle.capture_files.specs.Captures.{bytes_of_component, bytes_of_sample, bytes_of_samples}
+use Rattle.fixed_complex.specs.Samples.{AreSamples, IsSample}
 use borrow.Rule.Slice.PartMut.{post_of, put_mid}
+use Rattle.fixed_complex.proofs.Samples.{same_sample}
 
 -- the number of two bytes is below 2^16
 number_fits : (a b : ℕ) (rest : List ℕ) → a < 256 → b < 256 → little_number 2 (a ∷ b ∷ rest) < 2 ^ 16
@@ -71,12 +73,6 @@ component_alike a b p q low high =
     let same : cast_unsigned w16 a ≡ cast_unsigned w16 b = omega (arith, low, high, fits_a, fits_b) in
     sym (to_z-of_z w16 a p) ∙ ap (cast_signed w16) same ∙ to_z-of_z w16 b q
 
--- a sample is its components
-sample_alike : (x y : Sample) → x.i ≡ y.i → x.q ≡ y.q → x ≡ y
-sample_alike x y i q =
-    let at = λ (z w : ℤ). (let s : Sample = record { i = z; q = w } in s) in
-    ap (λ (z : ℤ). at z x.q) i ∙ ap (λ (w : ℤ). at y.i w) q
-
 -- the bytes of samples determine the samples
 pub samples_alike : (a b : List Sample) → AreSamples a → AreSamples b → bytes_of_samples a ≡ bytes_of_samples b → a ≡ b
 unfolding bytes_of_sample bytes_of_component
@@ -90,7 +86,7 @@ samples_alike (x ∷ a) (y ∷ b) p q e =
     let i : x.i ≡ y.i = component_alike x.i y.i is_x.i is_y.i (byte 0) (byte 1) in
     let q' : x.q ≡ y.q = component_alike x.q y.q is_x.q is_y.q (byte 2) (byte 3) in
     let rest : a ≡ b = samples_alike a b (All-tail IsSample x a p) (All-tail IsSample y b q) (ap (λ (l : List ℕ). drop 4 l) e) in
-    let same : x ≡ y = sample_alike x y i q' in
+    let same : x ≡ y = same_sample x y i q' in
     rw (rest, same) refl
 
 -- one sample more is read

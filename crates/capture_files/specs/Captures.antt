@@ -19,11 +19,3 @@ bytes_of_samples samples = flat_map bytes_of_sample samples
 -- a capture that ends after so many bytes is torn: they aren't whole samples
 abbrev pub IsTorn : ℕ → Type 0
 IsTorn bytes = bytes % 4 ≢ 0
-
--- a sample's components have 16 bits
-pub record IsSample (sample : Sample) : Type 0 where
-  pub i : FitsSigned w16 sample.i
-  pub q : FitsSigned w16 sample.q
-
-abbrev pub AreSamples : List Sample → Type 0
-AreSamples samples = All IsSample samples

@@ -2,7 +2,8 @@
 
 ghost use Rattle.std.specs.Prelude.{◌≡◌, List};
 ghost use Rattle.fixed_complex.specs.declared.Sample.{Sample};
-ghost use Rattle.capture_files.specs.Captures.{AreSamples, bytes_of_samples};
+ghost use Rattle.capture_files.specs.Captures.{bytes_of_samples};
+ghost use Rattle.fixed_complex.specs.Samples.{AreSamples};
 
 /// The bytes of samples determine the samples (own).
 pub fn bytes_determine_samples()

@@ -5,7 +5,8 @@ ghost use Rattle.std.specs.Prelude.{◌≡◌, ◌+◌, ◌%◌, ◌*◌, ◌≤
 ghost use Rattle.modem_ports.specs.Counts.{Rose};
 ghost use Rattle.modem_ports.specs.Limits.{most_input};
 ghost use Rattle.modem_ports.specs.Told.{Gives, GivesAtMost, GivesExactly, IsAtEnd, Takes, TakesPrefix};
-ghost use Rattle.capture_files.specs.Captures.{AreSamples, IsSample, IsTorn, bytes_of_sample, bytes_of_samples};
+ghost use Rattle.capture_files.specs.Captures.{IsTorn, bytes_of_sample, bytes_of_samples};
+ghost use Rattle.fixed_complex.specs.Samples.{AreSamples, IsSample};
 ghost use Rattle.capture_files.specs.Faults.{fault_of};
 ghost use Rattle.capture_files.specs.declared.CaptureFault.TheVariants.{NoMemory};
 

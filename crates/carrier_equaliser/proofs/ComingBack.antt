@@ -12,14 +12,15 @@ use Rattle.integer_laws.proofs.Order.{pos-le, unsigned_abs-difference, unsigned_
 use Rattle.integer_laws.proofs.Ring.{ring, number, ◌⊕◌, ◌⊖◌, ◌⊗◌, ◌≗◌}
 use Rattle.integer_laws.proofs.Sizes.{size_of_parts, size_of_unscaled}
 use Rattle.butterfly64.specs.PlainSums.{plain_down, plain_up}
-use Rattle.butterfly64.specs.StagedSums.{entry}
-use Rattle.butterfly64.proofs.PlainSumLaws.{minus_sums, multiple_sum, pair_of, same_sums}
-use Rattle.butterfly64.proofs.Sizes.{size-conjugate, size-plus, size-times, wider}
-use Rattle.butterfly64.proofs.TurnSizes.{turn-size}
+use Rattle.fixed_complex.specs.PairLists.{entry}
+use Rattle.fixed_complex.proofs.Sums.{minus_sums, multiple_sum, same_sums}
+use Rattle.fixed_complex.proofs.Pairs.{same_parts}
+use Rattle.fixed_complex.proofs.PairSizes.{size-conjugate, size-plus, size-times, wider}
+use Rattle.fixed_complex.proofs.TurnLaws.{turn-size}
 use Rattle.butterfly64.proofs.UpBudget.{size-multiple}
 use Rattle.training_fields.specs.Bodies.{all_times, plain_body}
 use Rattle.training_fields.specs.Nearness.{AreNearPlain}
-use Rattle.training_fields.proofs.Places.{entry-map}
+use Rattle.fixed_complex.proofs.PairLists.{entry-map}
 use Rattle.carrier_equaliser.specs.Nearness.{AreNearPlainSums}
 use Rattle.carrier_equaliser.specs.Received.{pair_at}
 
@@ -30,7 +31,7 @@ deviation r w n = minus (multiple (pos 2097152) (r n)) (w n)
 
 deviation_term : (c : ℤ) (a b t : Cx) → times (minus (multiple c a) b) t ≡ minus (multiple c (times a t)) (times b t)
 unfolding times
-deviation_term c a b t = pair_of _ _ (re c a.re a.im b.re b.im t.re t.im) (im c a.re a.im b.re b.im t.re t.im)
+deviation_term c a b t = same_parts _ _ (re c a.re a.im b.re b.im t.re t.im) (im c a.re a.im b.re b.im t.re t.im)
   where
     re : (c x y u v p q : ℤ) → (c *ℤ x -ℤ u) *ℤ p -ℤ (c *ℤ y -ℤ v) *ℤ q ≡ c *ℤ (x *ℤ p -ℤ y *ℤ q) -ℤ (u *ℤ p -ℤ v *ℤ q)
     re = ring 7 (λ c x y u v p q. (c ⊗ x ⊖ u) ⊗ p ⊖ (c ⊗ y ⊖ v) ⊗ q ≗ c ⊗ (x ⊗ p ⊖ y ⊗ q) ⊖ (u ⊗ p ⊖ v ⊗ q)) refl
@@ -47,7 +48,7 @@ plain_down-deviation r w c =
 
 -- 2^41 times the deviation of a received carrier, by way of the plain sums
 by_way : (y f p x : Cx) → multiple (pos 2199023255552) (minus y (multiple (pos 32) x)) ≡ plus (multiple (pos 2097152) (minus (multiple (pos 1048576) y) f)) (plus (minus (multiple (pos 2097152) f) p) (minus p (multiple (pos 70368744177664) x)))
-by_way y f p x = pair_of _ _ (law y.re f.re p.re x.re) (law y.im f.im p.im x.im)
+by_way y f p x = same_parts _ _ (law y.re f.re p.re x.re) (law y.im f.im p.im x.im)
   where
     law : (y f p x : ℤ) → pos 2199023255552 *ℤ (y -ℤ pos 32 *ℤ x) ≡ pos 2097152 *ℤ (pos 1048576 *ℤ y -ℤ f) +ℤ ((pos 2097152 *ℤ f -ℤ p) +ℤ (p -ℤ pos 70368744177664 *ℤ x))
     law = ring 4 (λ y f p x. number (pos 2199023255552) ⊗ (y ⊖ number (pos 32) ⊗ x) ≗ number (pos 2097152) ⊗ (number (pos 1048576) ⊗ y ⊖ f) ⊕ ((number (pos 2097152) ⊗ f ⊖ p) ⊕ (p ⊖ number (pos 70368744177664) ⊗ x))) refl

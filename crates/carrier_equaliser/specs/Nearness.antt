@@ -3,7 +3,7 @@ use Rattle.std.specs.Prelude.{◌≡◌, ℕ, ◌*◌, ◌<◌, ◌≤◌, ◌^�
 use Rattle.fixed_complex.specs.declared.Cx.{Cx}
 use Rattle.fixed_complex.specs.declared.Sample.{Sample}
 use Rattle.butterfly64.specs.PlainSums.{plain_down}
-use Rattle.butterfly64.specs.StagedSums.{entry}
+use Rattle.fixed_complex.specs.PairLists.{entry}
 use Rattle.carrier_equaliser.specs.Received.{pair_at}
 
 -- a carrier is within a bound of a plain sum over 2^20, in each component

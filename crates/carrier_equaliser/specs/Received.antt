@@ -3,9 +3,9 @@ use Rattle.std.specs.Prelude.{ℕ, List, map}
 use Rattle.std.specs.List.{range_with_len}
 use Rattle.fixed_complex.specs.declared.Cx.{Cx}
 use Rattle.fixed_complex.specs.declared.Sample.{Sample}
-use Rattle.lane_kernels.specs.Kernels.{pair_of}
-use Rattle.lane_kernels.specs.Lanes.{sample_at}
-use Rattle.butterfly64.specs.Samples.{by_256, rounded_pair}
+use Rattle.fixed_complex.specs.Samples.{pair_of, sample_at}
+use Rattle.fixed_complex.specs.PairLists.{by_256}
+use Rattle.fixed_complex.specs.Pairs.{rounded_pair}
 use Rattle.butterfly64.specs.StagedSums.{down_at}
 
 -- the sample at a place of a list, as a pair

@@ -5,7 +5,7 @@ ghost use Rattle.std.specs.Prelude.{ℕ, ◌+◌, ◌*◌, ◌<◌, List, pos};
 ghost use Rattle.fixed_complex.specs.Pairs.{IsOfSize, IsWithin, minus, multiple};
 ghost use Rattle.fixed_complex.specs.declared.Cx.{Cx};
 ghost use Rattle.fixed_complex.specs.declared.Sample.{Sample};
-ghost use Rattle.butterfly64.specs.StagedSums.{entry};
+ghost use Rattle.fixed_complex.specs.PairLists.{entry};
 ghost use Rattle.training_fields.specs.Bodies.{all_times, plain_body};
 ghost use Rattle.training_fields.specs.Nearness.{AreNearPlain};
 ghost use Rattle.carrier_equaliser.specs.Nearness.{AreNearPlainSums};

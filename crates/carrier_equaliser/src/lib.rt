@@ -2,11 +2,9 @@
 #![tactic(auto)]
 
 ghost use Rattle.std.specs.Prelude.{◌≡◌, ℕ, ◌^◌, ◌<◌, pos};
-ghost use Rattle.fixed_complex.specs.Pairs.{IsWithin, multiple};
-ghost use Rattle.butterfly64.specs.Bounds.{AreOfSize, AreWithin};
-ghost use Rattle.butterfly64.specs.Samples.{by_256, rounded_pair};
-ghost use Rattle.butterfly64.specs.StagedSums.{entry};
-ghost use Rattle.lane_kernels.specs.Kernels.{pair_of};
+ghost use Rattle.fixed_complex.specs.Pairs.{IsWithin, multiple, rounded_pair};
+ghost use Rattle.fixed_complex.specs.PairLists.{PairsOfSize, PairsWithin, by_256, entry};
+ghost use Rattle.fixed_complex.specs.Samples.{pair_of};
 ghost use Rattle.modem_ports.specs.Counts.{raised_by};
 ghost use Rattle.carrier_equaliser.specs.Received.{pair_at, received};
 ghost use Rattle.carrier_equaliser.specs.Nearness.{AreNearPlainSums};
@@ -28,8 +26,8 @@ const ZERO: Cx = Cx { re: 0, im: 0 };
 pub fn carriers_of(body: &[Sample; 64], steps: &mut Steps) -> [Cx; 64]
     ensures carriers { result ≡ received body.now }
     ensures near { AreNearPlainSums 40 result body.now }
-    ensures within { AreWithin (2 ^ 22) result }
-    ensures sizes { AreOfSize (2 ^ 22) result }
+    ensures within { PairsWithin (2 ^ 22) result }
+    ensures sizes { PairsOfSize (2 ^ 22) result }
     ensures counted { steps.new ≡ raised_by 1 steps.old }
 {
     butterfly64::laws::received_carriers();
@@ -46,7 +44,7 @@ pub fn carriers_of(body: &[Sample; 64], steps: &mut Steps) -> [Cx; 64]
 fn by_256(samples: &[Sample; 64]) -> [Cx; 64]
     ensures pairs { (n : ℕ) → n < 64 → entry result n ≡ by_256 (pair_at samples.now) n }
     ensures of_16_bits { (n : ℕ) → IsWithin (2 ^ 15) (pair_at samples.now n) }
-    ensures within { AreWithin (2 ^ 30) result }
+    ensures within { PairsWithin (2 ^ 30) result }
 {
     let mut enlarged = [ZERO; 64];
     for n in 0..64 {

@@ -4,7 +4,7 @@ use Rattle.std.proofs.lemmas.Bool.{and_parts, eqb-true, leb-true}
 use Rattle.std.proofs.lemmas.Int.{ints}
 use Rattle.fixed_complex.specs.declared.Cx.{Cx}
 use Rattle.fixed_complex.specs.Pairs.{IsOfSize, IsWithin}
-use Rattle.fixed_complex.proofs.Parts.{same_pair}
+use Rattle.fixed_complex.proofs.Pairs.{same_parts}
 
 -- two whole numbers are the same
 abbrev pub same_number : ℤ → ℤ → Bool
@@ -26,7 +26,7 @@ same_pairs a b = same_number a.re b.re && same_number a.im b.im
 pub are_same : (a b : Cx) → same_pairs a b ≡ true → a ≡ b
 are_same a b h =
     let both = and_parts (same_number a.re b.re) (same_number a.im b.im) h in
-    same_pair (is_same a.re b.re both.0) (is_same a.im b.im both.1)
+    same_parts a b (is_same a.re b.re both.0) (is_same a.im b.im both.1)
 
 -- a pair has components, or a size, of at most a bound
 abbrev pub within_test : ℕ → Cx → Bool

@@ -1,3 +1,9 @@
 pub mod ByTable
+pub mod Pairs
+pub mod PairLists
+pub mod PairSizes
 mod Parts
-mod Turning
+pub mod Samples
+pub mod Sums
+pub mod Turning
+pub mod TurnLaws

@@ -36,7 +36,3 @@ sum_fits p q small_p small_q = omega (arith, ints)
 -- a rounded number of few bits
 pub rounded_is : (n m part : ℤ) → unsigned_abs n ≤ 2 ^ 42 → n ≡ half_up 20 m → m ≡ part → held n ≡ half_up 20 part
 rounded_is n m part small at_n at_m = held_is n (omega arith) ∙ at_n ∙ ap (half_up 20) at_m
-
--- pairs with the same parts are the same
-pub same_pair : {a b x y : ℤ} → a ≡ x → b ≡ y → let p : Cx = record { re = a; im = b } in p ≡ record { re = x; im = y }
-same_pair {a} {b} {x} {y} at_re at_im = ap (λ m. let p : Cx = record { re = m; im = b } in p) at_re ∙ ap (λ m. let p : Cx = record { re = x; im = m } in p) at_im

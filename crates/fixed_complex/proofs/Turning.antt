@@ -5,14 +5,14 @@ use Rattle.fixed_complex.specs.declared.Cx.{Cx}
 use Rattle.fixed_complex.specs.Turns.{turn_at, cosine_at}
 use Rattle.fixed_complex.specs.Laws.{sum_below}
 use Rattle.fixed_complex.specs.Pairs.{plus}
-use Rattle.fixed_complex.proofs.Parts.{same_pair}
+use Rattle.fixed_complex.proofs.Pairs.{same_parts}
 
 same_cosine : (m n : ℕ) → m % 64 ≡ n % 64 → cosine_at m ≡ cosine_at n
 same_cosine m n e = rw e refl
 
 pub same_turn : (m n : ℕ) → m % 64 ≡ n % 64 → turn_at m ≡ turn_at n
 unfolding turn_at
-same_turn m n e = same_pair (same_cosine m n e) (same_cosine (m + 48) (n + 48) (omega (arith, e)))
+same_turn m n e = same_parts _ _ (same_cosine m n e) (same_cosine (m + 48) (n + 48) (omega (arith, e)))
 
 -- the turn at a place of the table
 pub turn_in_table : (m : ℕ) → turn_at m ≡ turn_at (m % 64)
@@ -23,8 +23,6 @@ turns_of_products d n =
     let twice : d % 64 ≡ d % 64 % 64 = omega arith in
     same_turn (d * n) ((d % 64) * n) (mul-mod d n 64 ∙ ap (λ m. (m * (n % 64)) % 64) twice ∙ sym (mul-mod (d % 64) n 64))
 
--- sums of the same pairs are the same
-pub same_sum : (f g : ℕ → Cx) → ((n : ℕ) → f n ≡ g n) → (n : ℕ) → sum_below n f ≡ sum_below n g
-unfolding sum_below
-same_sum f g same zero = refl
-same_sum f g same (suc n) = ap (λ s. plus s (f n)) (same_sum f g same n) ∙ ap (λ p. plus (sum_below n g) p) (same n)
+-- whole turns change nothing
+pub whole_turns : (a p : ℕ) → turn_at (a + 64 * p) ≡ turn_at a
+whole_turns a p = same_turn (a + 64 * p) a (omega arith)

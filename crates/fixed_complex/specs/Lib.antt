@@ -1,4 +1,6 @@
 pub mod Pairs
+pub mod PairLists
 pub mod Rounding
+pub mod Samples
 pub mod Turns
 pub mod Laws

@@ -27,6 +27,10 @@ times a b = record { re = a.re *ℤ b.re -ℤ a.im *ℤ b.im; im = a.re *ℤ b.i
 unfoldable pub scaled_product : Cx → Cx → Cx
 scaled_product w z = record { re = half_up 20 (times w z).re; im = half_up 20 (times w z).im }
 
+-- a pair over 2^bits, each component rounded half up
+abbrev pub rounded_pair : ℕ → Cx → Cx
+rounded_pair bits a = record { re = half_up bits a.re; im = half_up bits a.im }
+
 -- each component is at most so large in size
 pub record IsWithin (bound : ℕ) (a : Cx) : Type 0 where
   pub re : unsigned_abs a.re ≤ bound

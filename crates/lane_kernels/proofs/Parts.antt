@@ -17,16 +17,9 @@ unfolding times
 imaginary_part s a b = omega (arith, ints, *ℤ-neg_ℤ a.i b.q)
 
 -- how large they are
-pub conjugate-within : (a : Cx) → IsWithin (2 ^ 15) a → IsWithin (2 ^ 15) (conjugate a)
-conjugate-within a h = record { re = h.re; im = omega (arith, ints, h.im) }
-
 pub times-within : (a b : Cx) → IsWithin (2 ^ 15) a → IsWithin (2 ^ 15) b → IsWithin (2 ^ 31) (times a b)
 unfolding times
 times-within a b h k = record {
   re = omega (arith, ints, product-le a.re b.re h.re k.re, product-le a.im b.im h.im k.im);
   im = omega (arith, ints, product-le a.re b.im h.re k.im, product-le a.im b.re h.im k.re);
 }
-
--- pairs with the same parts
-pub same_pair : (p q : Cx) → p.re ≡ q.re → p.im ≡ q.im → p ≡ q
-same_pair p q re im = λ i. record { re = re i; im = im i }

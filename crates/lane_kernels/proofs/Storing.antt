@@ -1,14 +1,14 @@
 -- Samples stored place by place.
-use Rattle.std.proofs.Common.{◌≡◌, inl, inr, ◌≢◌, ℕ, zero, suc, ◌+◌, ◌<◌, ◌≤◌, List, [], ◌∷◌, length, set, ℤ, pos, negsuc, ◌+ℤ◌, to_z, of_z, refl, sym, ap, ◌∙◌, arith}
+use Rattle.std.proofs.Common.{◌≡◌, inl, inr, ◌≢◌, ℕ, zero, suc, ◌+◌, ◌<◌, ◌≤◌, List, [], ◌∷◌, length, set, ℤ, pos, negsuc, ◌+ℤ◌, to_z, of_z, refl, sym, ap, ◌∙◌, arith, get_or-set_other, get_or-set_same}
 use Rattle.std.proofs.lemmas.Bool.{cases_lt}
 use Rattle.std.specs.Prelude.{FitsSigned}
 use Rattle.std.specs.Int.{saturate_signed}
 use Rattle.std.proofs.lemmas.Int.{ints, clamps, to_z-of_z}
 use Rattle.std.proofs.lemmas.List.{ext_get_or}
-use Rattle.std.proofs.Common.{get_or-set_other, get_or-set_same}
 use Rattle.fixed_complex.specs.declared.Sample.{Sample}
 use Rattle.lane_kernels.specs.Kernels.{held, held_sum, held_sums}
-use Rattle.lane_kernels.specs.Lanes.{HoldsSums, eight, number_at, sample_at}
+use Rattle.lane_kernels.specs.Lanes.{HoldsSums, eight, number_at}
+use Rattle.fixed_complex.specs.Samples.{sample_at}
 use Rattle.lane_kernels.proofs.Holding.{held-fits}
 use Rattle.lane_kernels.proofs.Totals.{eight-at}
 use mir.Syntax.{w16}
@@ -57,10 +57,6 @@ lane-held x y new f g x_is y_is new_is n below =
     ∙ (eight-at (λ m. held (number_at x m +ℤ number_at y m)) n below
     ∙ (ap (λ z. held (z +ℤ number_at y n)) x_at ∙ ap (λ z. held (f n +ℤ z)) y_at)) in
     rw here (to_z-of_z w16 (held (f n +ℤ g n)) (held-fits (f n +ℤ g n)))
-
--- samples with the same components
-pub same_sample : (s t : Sample) → s.i ≡ t.i → s.q ≡ t.q → s ≡ t
-same_sample s t i q = λ k. record { i = i k; q = q k }
 
 -- std's saturation holds a number
 pub saturated : (v : ℤ) → saturate_signed w16 v ≡ held v

@@ -5,7 +5,8 @@ use Rattle.std.proofs.lemmas.Int.{ints}
 use Rattle.std.proofs.lemmas.Simd.{get_or-chunk}
 use Rattle.fixed_complex.specs.declared.Sample.{Sample}
 use Rattle.lane_kernels.specs.Kernels.{dot_of, energy_of, power_of, product_of}
-use Rattle.lane_kernels.specs.Lanes.{AreWithin, eight, sample_at, total_below, total_of}
+use Rattle.lane_kernels.specs.Lanes.{AreWithin, eight, total_below, total_of}
+use Rattle.fixed_complex.specs.Samples.{sample_at}
 use Rattle.lane_kernels.proofs.Totals.{eight-within}
 
 -- no chunk yet

@@ -5,10 +5,7 @@ use Rattle.std.specs.List.{position_or_len}
 use Rattle.fixed_complex.specs.declared.Cx.{Cx}
 use Rattle.fixed_complex.specs.declared.Sample.{Sample}
 use Rattle.fixed_complex.specs.Pairs.{conjugate, plus, times, zero_pair}
-
--- a sample as a whole-number pair
-abbrev pub pair_of : Sample → Cx
-pair_of sample = record { re = sample.i; im = sample.q }
+use Rattle.fixed_complex.specs.Samples.{pair_of}
 
 -- the product of a sample with the conjugate of another
 abbrev pub product_of : Sample → Sample → Cx

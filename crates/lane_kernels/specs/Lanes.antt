@@ -2,14 +2,11 @@
 use Rattle.std.specs.Prelude.{◌≡◌, ℕ, zero, suc, ◌<◌, ◌≤◌, List, [], ◌∷◌, slice_index_or, fold, ℤ, pos, neg_ℤ, ◌+ℤ◌, ◌≤ℤ◌, unsigned_abs}
 use Rattle.fixed_complex.specs.declared.Sample.{Sample}
 use Rattle.lane_kernels.specs.Kernels.{held_sum}
+use Rattle.fixed_complex.specs.Samples.{sample_at}
 
 -- the number at a place of a list, and 0 past its end
 abbrev pub number_at : List ℤ → ℕ → ℤ
 number_at numbers n = slice_index_or numbers n (pos 0)
-
--- the sample at a place of a list, and silence past its end
-abbrev pub sample_at : List Sample → ℕ → Sample
-sample_at samples n = slice_index_or samples n (record { i = pos 0; q = pos 0 })
 
 -- one entry for each of eight lanes
 abbrev pub eight : {X : Type 0} → (ℕ → X) → List X

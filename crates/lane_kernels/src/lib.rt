@@ -4,8 +4,9 @@
 
 ghost use Rattle.std.specs.Prelude.{◌≡◌, ℕ, ◌+◌, ◌*◌, ◌/◌, ◌^◌, ◌<◌, ◌≤◌, false, length, take, nat_lt, ℤ, pos, ◌+ℤ◌, ◌-ℤ◌, ◌*ℤ◌, unsigned_abs};
 ghost use Rattle.fixed_complex.specs.Pairs.{IsWithin};
-ghost use Rattle.lane_kernels.specs.Kernels.{dot_of, energy_of, first_loud_of, held, held_sum, held_sums, is_loud, pair_of, power_of, product_of};
-ghost use Rattle.lane_kernels.specs.Lanes.{AreOf16Bits, AreWithin, HoldsSums, eight, number_at, sample_at, total_below, total_of};
+ghost use Rattle.lane_kernels.specs.Kernels.{dot_of, energy_of, first_loud_of, held, held_sum, held_sums, is_loud, power_of, product_of};
+ghost use Rattle.fixed_complex.specs.Samples.{pair_of, sample_at};
+ghost use Rattle.lane_kernels.specs.Lanes.{AreOf16Bits, AreWithin, HoldsSums, eight, number_at, total_below, total_of};
 
 pub use byte_lanes::differences;
 use fixed_complex::{Cx, Sample, add, conj, mul};

@@ -9,7 +9,7 @@ use Rattle.bit_lists.specs.Bits.{AreBits, IsBit}
 use Rattle.conv_code.proofs.Coded.{AreBits-code_of}
 use Rattle.fixed_complex.specs.declared.Cx.{Cx}
 use Rattle.fixed_complex.specs.declared.Sample.{Sample}
-use Rattle.butterfly64.specs.Bounds.{AreWithin}
+use Rattle.fixed_complex.specs.PairLists.{PairsWithin}
 use Rattle.data_field.specs.Stages.{code_at, field_at, kept_at}
 use Rattle.interleave_two.specs.Place.{interleaved}
 use Rattle.puncture_map.proofs.KeptBits.{AreBits-kept_bits}
@@ -23,7 +23,7 @@ use Rattle.signal_field.specs.Signal.{header_bits_of}
 use Rattle.symbol_builder.specs.Carriers.{plain_symbol, sent_symbol}
 use Rattle.symbol_builder.specs.Points.{points_of, points_of_code}
 use Rattle.training_fields.specs.Bodies.{plain_body, sent_body}
-use Rattle.training_fields.specs.Bounds.{AreSamplesWithin}
+use Rattle.fixed_complex.specs.Samples.{SamplesWithin}
 use Rattle.training_fields.specs.Nearness.{AreNearPlain}
 use Rattle.training_fields.specs.Training.{preamble_of}
 use Rattle.modem_links.specs.Frames.{frame_points, plain_frame, sent_frame}
@@ -31,19 +31,19 @@ use Rattle.modem_links.proofs.Begun.{all_symbols, begun_frame, no_symbols, one_s
 
 -- what the laws below ensure
 abbrev pub SmallPoints : Type 0
-SmallPoints = (modulation : Modulation) (bits : List ℕ) → AreBits bits → 48 * bits_of_modulation modulation ≤ length bits → AreWithin 700 (points_of modulation bits)
+SmallPoints = (modulation : Modulation) (bits : List ℕ) → AreBits bits → 48 * bits_of_modulation modulation ≤ length bits → PairsWithin 700 (points_of modulation bits)
 
 abbrev pub NearSymbols : Type 0
-NearSymbols = (points : List Cx) (n : ℕ) → AreWithin 700 points → AreNearPlain 1 (sent_symbol points n) (plain_symbol points n)
+NearSymbols = (points : List Cx) (n : ℕ) → PairsWithin 700 points → AreNearPlain 1 (sent_symbol points n) (plain_symbol points n)
 
 abbrev pub SmallSymbols : Type 0
-SmallSymbols = (points : List Cx) (n : ℕ) → AreWithin 700 points → AreSamplesWithin 25057 (sent_symbol points n)
+SmallSymbols = (points : List Cx) (n : ℕ) → PairsWithin 700 points → SamplesWithin 25057 (sent_symbol points n)
 
 abbrev pub NearBehind : Type 0
 NearBehind = (bound : ℕ) (front back : List Sample) (plain behind : List Cx) → AreNearPlain bound front plain → AreNearPlain bound back behind → AreNearPlain bound (front ++ back) (plain ++ behind)
 
 abbrev pub SmallBehind : Type 0
-SmallBehind = (bound : ℕ) (front back : List Sample) → AreSamplesWithin bound front → AreSamplesWithin bound back → AreSamplesWithin bound (front ++ back)
+SmallBehind = (bound : ℕ) (front back : List Sample) → SamplesWithin bound front → SamplesWithin bound back → SamplesWithin bound (front ++ back)
 
 -- a symbol has 48 groups of bits
 groups : (rate : Rate) → 48 * bits_of_modulation (row_of rate).modulation ≤ (row_of rate).coded_bits
@@ -57,7 +57,7 @@ AreBits-interleaved : (rate : Rate) (bits : List ℕ) → AreBits bits → AreBi
 AreBits-interleaved rate bits are = All-map IsBit _ (range_with_len 0 (row_of rate).coded_bits) (λ k d _. IsBit-slice_index bits are _)
 
 -- the points of coded bits are small
-small_code : SmallPoints → (rate : Rate) (bits : List ℕ) → AreBits bits → AreWithin 700 (points_of_code rate bits)
+small_code : SmallPoints → (rate : Rate) (bits : List ℕ) → AreBits bits → PairsWithin 700 (points_of_code rate bits)
 small_code small rate bits are =
     let long : length (interleaved rate bits) ≡ (row_of rate).coded_bits = length-map-range_with_len _ 0 (row_of rate).coded_bits in
     small (row_of rate).modulation (interleaved rate bits) (AreBits-interleaved rate bits are) (omega (arith, groups rate, long))
@@ -65,7 +65,7 @@ small_code small rate bits are =
 AreBits-kept_at : (rate : Rate) (seed : ℕ) (psdu : List ℕ) → AreBits (kept_at rate seed psdu)
 AreBits-kept_at rate seed psdu = AreBits-kept_bits (row_of rate).code_rate (code_at rate seed psdu) (length (code_at rate seed psdu)) (AreBits-code_of (field_at rate seed psdu))
 
-small_frame_points : SmallPoints → (rate : Rate) (seed : ℕ) (psdu : List ℕ) (n : ℕ) → AreWithin 700 (frame_points rate seed psdu n)
+small_frame_points : SmallPoints → (rate : Rate) (seed : ℕ) (psdu : List ℕ) (n : ℕ) → PairsWithin 700 (frame_points rate seed psdu n)
 small_frame_points small rate seed psdu zero = small_code small R6 _ (AreBits-code_of (header_bits_of rate (length psdu) 0))
 small_frame_points small rate seed psdu (suc m) = small_code small rate _ (All-take IsBit _ _ (All-drop IsBit _ _ (AreBits-kept_at rate seed psdu)))
 
@@ -80,14 +80,14 @@ near_begun small near behind head rate seed psdu (suc n) =
     subst (λ m. AreNearPlain 1 (begun_frame sent_body rate seed psdu m) (begun_frame plain_body rate seed psdu m)) next
     (rw (← one_symbol_more sent_body rate seed psdu n, ← one_symbol_more plain_body rate seed psdu n) both)
 
-small_begun : SmallPoints → SmallSymbols → SmallBehind → AreSamplesWithin 25057 (preamble_of sent_body) → (rate : Rate) (seed : ℕ) (psdu : List ℕ) (n : ℕ)
-    → AreSamplesWithin 25057 (begun_frame sent_body rate seed psdu n)
+small_begun : SmallPoints → SmallSymbols → SmallBehind → SamplesWithin 25057 (preamble_of sent_body) → (rate : Rate) (seed : ℕ) (psdu : List ℕ) (n : ℕ)
+    → SamplesWithin 25057 (begun_frame sent_body rate seed psdu n)
 small_begun small within behind head rate seed psdu zero = rw (no_symbols sent_body rate seed psdu) head
 small_begun small within behind head rate seed psdu (suc n) =
     let next : n + 1 ≡ suc n = omega arith in
     let points = frame_points rate seed psdu n in
     let both = behind 25057 (begun_frame sent_body rate seed psdu n) (sent_symbol points n) (small_begun small within behind head rate seed psdu n) (within points n (small_frame_points small rate seed psdu n)) in
-    subst (λ m. AreSamplesWithin 25057 (begun_frame sent_body rate seed psdu m)) next (rw (← one_symbol_more sent_body rate seed psdu n) both)
+    subst (λ m. SamplesWithin 25057 (begun_frame sent_body rate seed psdu m)) next (rw (← one_symbol_more sent_body rate seed psdu n) both)
 
 -- the whole frame
 pub near_frame : SmallPoints → NearSymbols → NearBehind → AreNearPlain 1 (preamble_of sent_body) (preamble_of plain_body) → (rate : Rate) (seed : ℕ) (psdu : List ℕ)
@@ -96,8 +96,8 @@ near_frame small near behind head rate seed psdu =
     let count = symbol_count (row_of rate).field_bits (length psdu) in
     rw (← all_symbols sent_body rate seed psdu count refl, ← all_symbols plain_body rate seed psdu count refl) (near_begun small near behind head rate seed psdu (count + 1))
 
-pub small_frame : SmallPoints → SmallSymbols → SmallBehind → AreSamplesWithin 25057 (preamble_of sent_body) → (rate : Rate) (seed : ℕ) (psdu : List ℕ)
-    → AreSamplesWithin 25057 (sent_frame rate seed psdu)
+pub small_frame : SmallPoints → SmallSymbols → SmallBehind → SamplesWithin 25057 (preamble_of sent_body) → (rate : Rate) (seed : ℕ) (psdu : List ℕ)
+    → SamplesWithin 25057 (sent_frame rate seed psdu)
 small_frame small within behind head rate seed psdu =
     let count = symbol_count (row_of rate).field_bits (length psdu) in
     rw (← all_symbols sent_body rate seed psdu count refl) (small_begun small within behind head rate seed psdu (count + 1))

@@ -1,7 +1,7 @@
 //! Frames, from a PSDU to samples and bytes (IEEE Std 802.11-2012, 18.3.2.1).
 ghost use Rattle.std.specs.Prelude.{◌≡◌, ℕ, ◌+◌, ◌*◌, ◌≤◌, ◌++◌, List, length, take, slice_index, IfOk, OnOk, IsErrOf, alloc_error};
 ghost use Rattle.bit_lists.specs.Bits.{AreBits};
-ghost use Rattle.butterfly64.specs.Bounds.{AreWithin};
+ghost use Rattle.fixed_complex.specs.PairLists.{PairsWithin};
 ghost use Rattle.fixed_complex.specs.declared.Cx.{Cx};
 ghost use Rattle.interleave_two.specs.Place.{interleaved};
 ghost use Rattle.modem_links.specs.Frames.{plain_frame, sent_bytes, sent_frame, signal_code};
@@ -14,7 +14,7 @@ ghost use Rattle.rate_table.specs.declared.Rate.TheVariants.{R6};
 ghost use Rattle.symbol_builder.specs.Carriers.{plain_symbol, sent_symbol};
 ghost use Rattle.symbol_builder.specs.Points.{points_of_code};
 ghost use Rattle.training_fields.specs.Bodies.{plain_body, sent_body};
-ghost use Rattle.training_fields.specs.Bounds.{AreSamplesWithin};
+ghost use Rattle.fixed_complex.specs.Samples.{SamplesWithin};
 ghost use Rattle.training_fields.specs.Nearness.{AreNearPlain};
 ghost use Rattle.training_fields.specs.Training.{preamble_of};
 
@@ -73,7 +73,7 @@ pub fn send<K: Sink>(
         → TakesPrefix (K.taken sink.old) (sent_bytes rate seed psdu.now) (K.taken sink.new) }
     ensures no_memory { IsErrOf result (SendFault.NoMemory alloc_error) → sink.new ≡ sink.old }
     ensures near { AreNearPlain 1 (sent_frame rate seed psdu.now) (plain_frame rate seed psdu.now) }
-    ensures within { AreSamplesWithin 25057 (sent_frame rate seed psdu.now) }
+    ensures within { SamplesWithin 25057 (sent_frame rate seed psdu.now) }
     ensures counted { K.faults sink.old ≤ K.faults sink.new }
 {
     sent_frames();
@@ -96,7 +96,7 @@ pub fn frame_samples(
     requires octets { IsLength (length psdu.now) }
     ensures samples { IfOk result (λ samples. samples.items ≡ sent_frame rate seed psdu.now) }
     ensures near { IfOk result (λ samples. AreNearPlain 1 samples.items (plain_frame rate seed psdu.now)) }
-    ensures within { IfOk result (λ samples. AreSamplesWithin 25057 samples.items) }
+    ensures within { IfOk result (λ samples. SamplesWithin 25057 samples.items) }
     ensures len { IfOk result (λ samples.
         length samples.items ≡ 400 + 80 * symbol_count (row_of rate).field_bits (length psdu.now)) }
 {
@@ -143,7 +143,7 @@ pub fn signal_code(rate: Rate, octets: u16) -> [u8; 48]
 
 // Appends the samples of symbol n.
 fn push_symbol(samples: &mut Vec<Sample>, points: &[Cx; 48], n: u32) -> Result<(), AllocError>
-    requires { AreWithin 700 points.now }
+    requires { PairsWithin 700 points.now }
     ensures appended { OnOk result (samples.new.items ≡ samples.old.items ++ sent_symbol points.now n) }
     ensures len { OnOk result (length samples.new.items ≡ length samples.old.items + 80) }
 {
@@ -157,7 +157,7 @@ pub fn points_of_code(rate: Rate, symbol: &[u8]) -> [Cx; 48]
     requires whole { length symbol.now ≡ (row_of rate).coded_bits }
     requires bits { AreBits symbol.now }
     ensures points { result ≡ points_of_code rate symbol.now }
-    ensures within { AreWithin 700 result }
+    ensures within { PairsWithin 700 result }
 {
     symbol_points(rate.modulation(), &interleaved_symbol(rate, symbol))
 }

@@ -1,14 +1,13 @@
 //! What holds of fields of decisions and of frames. Its functions do nothing: what each ensures is the law.
 ghost use Rattle.std.specs.Prelude.{◌≡◌, ◌<◌, ◌≤◌, ℕ, ◌+◌, ◌*◌, ◌%◌, List, length};
 ghost use Rattle.bit_lists.specs.Bits.{AreBits, AreOctets};
-ghost use Rattle.butterfly64.specs.StagedSums.{entry};
-ghost use Rattle.lane_kernels.specs.Lanes.{sample_at};
+ghost use Rattle.fixed_complex.specs.PairLists.{entry};
+ghost use Rattle.fixed_complex.specs.Samples.{sample_at, SamplesWithin};
 ghost use Rattle.ofdm_scrambler.specs.Sequence.{IsSeed};
 ghost use Rattle.rate_table.specs.Table.{row_of};
 ghost use Rattle.rate_table.specs.declared.Rate.{Rate};
 ghost use Rattle.rate_table.specs.Symbols.{symbol_count};
 ghost use Rattle.training_fields.specs.Bodies.{plain_body, sent_body};
-ghost use Rattle.training_fields.specs.Bounds.{AreSamplesWithin};
 ghost use Rattle.training_fields.specs.Nearness.{AreNearPlain};
 ghost use Rattle.training_fields.specs.Training.{preamble_of};
 ghost use Rattle.modem_links.specs.Fields.{IsFieldOf, flips};
@@ -62,7 +61,7 @@ pub fn places_of_a_frame()
 pub fn sent_frames()
     ensures near { (rate : Rate) (seed : ℕ) (psdu : List ℕ)
         → AreNearPlain 1 (sent_frame rate seed psdu) (plain_frame rate seed psdu) }
-    ensures within { (rate : Rate) (seed : ℕ) (psdu : List ℕ) → AreSamplesWithin 25057 (sent_frame rate seed psdu) }
+    ensures within { (rate : Rate) (seed : ℕ) (psdu : List ℕ) → SamplesWithin 25057 (sent_frame rate seed psdu) }
 {
     training_fields::laws::sent_preamble();
     training_fields::laws::samples_behind_samples();

@@ -5,13 +5,13 @@ use Rattle.std.proofs.lemmas.List.Elements.{All-drop, All-take}
 use Rattle.std.proofs.lemmas.List.FromFn.{length-map-range_with_len}
 use Rattle.bit_lists.specs.Bits.{AreBits, IsBit}
 use Rattle.fixed_complex.specs.Pairs.{IsWithin}
-use Rattle.butterfly64.specs.Bounds.{AreWithin}
+use Rattle.fixed_complex.specs.PairLists.{PairsWithin}
 use Rattle.rate_table.specs.declared.Modulation.{Modulation}
 use Rattle.rate_table.specs.declared.Modulation.TheVariants.{Bpsk, Qpsk, Qam16, Qam64}
 use Rattle.rate_table.specs.Table.{bits_of_modulation}
 use Rattle.constellations.specs.Axes.{axis_of, axis_width}
 use Rattle.constellations.specs.Points.{point_of}
-use Rattle.training_fields.proofs.Places.{entry-map}
+use Rattle.fixed_complex.proofs.PairLists.{entry-map}
 use Rattle.symbol_builder.specs.Points.{point_at, points_of}
 
 -- an axis is small: what `sizes_of_axes` of constellations ensures
@@ -41,7 +41,7 @@ module _ (small : SmallAxes) where
   group_whole Qam16 bits d enough lt = omega (arith, length-drop (4 * d) bits)
   group_whole Qam64 bits d enough lt = omega (arith, length-drop (6 * d) bits)
 
-  pub small_points : (modulation : Modulation) (bits : List ℕ) → AreBits bits → 48 * bits_of_modulation modulation ≤ length bits → AreWithin 700 (points_of modulation bits)
+  pub small_points : (modulation : Modulation) (bits : List ℕ) → AreBits bits → 48 * bits_of_modulation modulation ≤ length bits → PairsWithin 700 (points_of modulation bits)
   unfolding points_of
   small_points modulation bits are enough = record {
     each = λ d lt.

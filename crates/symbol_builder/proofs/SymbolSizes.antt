@@ -5,13 +5,12 @@ use Rattle.std.proofs.lemmas.Bool.{cases_lt, leb-true, lt-ltb, le-ltb}
 use Rattle.integer_laws.proofs.Sizes.{size_of_parts}
 use Rattle.fixed_complex.specs.declared.Cx.{Cx}
 use Rattle.fixed_complex.specs.Pairs.{IsOfSize, IsWithin}
-use Rattle.butterfly64.specs.Bounds.{AreWithin}
-use Rattle.butterfly64.specs.StagedSums.{entry}
+use Rattle.fixed_complex.specs.PairLists.{PairsWithin, entry}
 use Rattle.constellations.specs.Carriers.{bin_of, data_carrier_of}
 use Rattle.training_fields.specs.Bins.{carrier_in}
 use Rattle.training_fields.specs.Bounds.{FitASample}
 use Rattle.training_fields.specs.Signs.{sign_at}
-use Rattle.training_fields.proofs.Places.{entry-map, everywhere_within}
+use Rattle.fixed_complex.proofs.PairLists.{entry-map, everywhere_within}
 use Rattle.symbol_builder.specs.Carriers.{data_number_in, pilot_sign_of, symbol_bin, symbol_bins}
 use Rattle.symbol_builder.proofs.Pilots.{pilot_size, pilot_within}
 
@@ -23,7 +22,7 @@ point_size x within = record { size = size_of_parts x.re x.im 700 700 990 within
 size_in : ℕ → ℕ
 size_in bin = if nat_lt (data_number_in bin) 48 then 990 else 648 * unsigned_abs (pilot_sign_of (carrier_in bin))
 
-symbol_size : (points : List Cx) (n : ℕ) → AreWithin 700 points → (bin : ℕ) → bin < 64 → IsOfSize (size_in bin) (symbol_bin points n bin)
+symbol_size : (points : List Cx) (n : ℕ) → PairsWithin 700 points → (bin : ℕ) → bin < 64 → IsOfSize (size_in bin) (symbol_bin points n bin)
 unfolding size_in symbol_bin
 symbol_size points n within bin lt =
     elim (cases_lt (data_number_in bin) 48) [
@@ -36,14 +35,14 @@ total_size : sum (map size_in (range_with_len 0 64)) ≤ 50112
 unfolding size_in data_number_in bin_of data_carrier_of sign_at
 total_size = leb-true _ _ refl
 
-pub symbol_fits : (points : List Cx) (n : ℕ) → AreWithin 700 points → FitASample (symbol_bins points n)
+pub symbol_fits : (points : List Cx) (n : ℕ) → PairsWithin 700 points → FitASample (symbol_bins points n)
 symbol_fits points n within = record {
   sizes = size_in;
   each = λ bin lt. rw (entry-map (symbol_bin points n) 64 bin lt) (symbol_size points n within bin lt);
   total = total_size;
 }
 
-pub symbol_within : (points : List Cx) (n : ℕ) → AreWithin 700 points → (bin : ℕ) → bin < 64 → IsWithin 700 (symbol_bin points n bin)
+pub symbol_within : (points : List Cx) (n : ℕ) → PairsWithin 700 points → (bin : ℕ) → bin < 64 → IsWithin 700 (symbol_bin points n bin)
 unfolding symbol_bin
 symbol_within points n within bin lt =
     elim (cases_lt (data_number_in bin) 48) [

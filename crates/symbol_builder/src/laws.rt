@@ -3,14 +3,14 @@
 
 ghost use Rattle.std.specs.Prelude.{◌≡◌, ◌≢◌, ℕ, ◌*◌, ◌<◌, ◌≤◌, ◌==◌, ◌||◌, List, length, IsTrue, slice_index_or, ℤ, pos, neg_ℤ, ◌≤ℤ◌, unsigned_abs, if◌then◌else◌};
 ghost use Rattle.bit_lists.specs.Bits.{AreBits};
-ghost use Rattle.butterfly64.specs.Bounds.{AreWithin};
+ghost use Rattle.fixed_complex.specs.PairLists.{PairsWithin};
 ghost use Rattle.fixed_complex.specs.declared.Cx.{Cx};
 ghost use Rattle.fixed_complex.specs.Pairs.{zero_pair};
 ghost use Rattle.constellations.specs.Carriers.{bin_of, carries_data, data_carrier_of};
 ghost use Rattle.rate_table.specs.Table.{bits_of_modulation};
 ghost use Rattle.rate_table.specs.declared.Modulation.{Modulation};
 ghost use Rattle.training_fields.specs.Bins.{carrier_in};
-ghost use Rattle.training_fields.specs.Bounds.{AreSamplesWithin};
+ghost use Rattle.fixed_complex.specs.Samples.{SamplesWithin};
 ghost use Rattle.training_fields.specs.Nearness.{AreNearPlain};
 ghost use Rattle.symbol_builder.specs.Carriers.{pilot_at, pilot_sign_of, plain_symbol, sent_symbol, symbol_bin};
 ghost use Rattle.symbol_builder.specs.Points.{points_of};
@@ -44,7 +44,7 @@ pub fn bins_of_a_symbol()
 /// No component of the points of a symbol's bits is larger than 700 in size (own).
 pub fn sizes_of_points()
     ensures { (modulation : Modulation) (bits : List ℕ) → AreBits bits
-        → 48 * bits_of_modulation modulation ≤ length bits → AreWithin 700 (points_of modulation bits) }
+        → 48 * bits_of_modulation modulation ≤ length bits → PairsWithin 700 (points_of modulation bits) }
 {
     constellations::laws::sizes_of_axes();
 }
@@ -52,10 +52,10 @@ pub fn sizes_of_points()
 /// The sent samples of symbol n, of any points with components of at most 700, are within 1 of the plain ones, and no
 /// component is larger than 25057 in size (own).
 pub fn sent_symbols()
-    ensures near { (points : List Cx) (n : ℕ) → AreWithin 700 points
+    ensures near { (points : List Cx) (n : ℕ) → PairsWithin 700 points
         → AreNearPlain 1 (sent_symbol points n) (plain_symbol points n) }
-    ensures within { (points : List Cx) (n : ℕ) → AreWithin 700 points
-        → AreSamplesWithin 25057 (sent_symbol points n) }
+    ensures within { (points : List Cx) (n : ℕ) → PairsWithin 700 points
+        → SamplesWithin 25057 (sent_symbol points n) }
 {
     training_fields::laws::sent_bodies();
 }

@@ -5,7 +5,7 @@ ghost use Rattle.std.specs.Prelude.{◌≡◌, ℕ, ◌+◌, ◌*◌, ◌%◌, �
 ghost use Rattle.bit_lists.specs.Bits.{AreBits};
 ghost use Rattle.fixed_complex.specs.Pairs.{IsWithin};
 ghost use Rattle.constellations.specs.Points.{point_of};
-ghost use Rattle.butterfly64.specs.Bounds.{AreWithin};
+ghost use Rattle.fixed_complex.specs.PairLists.{PairsWithin};
 ghost use Rattle.rate_table.specs.declared.Rate.{Rate};
 ghost use Rattle.rate_table.specs.Table.{bits_of_modulation, row_of};
 ghost use Rattle.rate_table.specs.Symbols.{IsLength, symbol_count};
@@ -45,7 +45,7 @@ pub fn symbol_points(modulation: Modulation, bits: &[u8; 288]) -> [Cx; 48]
     ensures points { result ≡ points_of modulation bits.now }
     ensures of_symbol { (rate : Rate) → (row_of rate).modulation ≡ modulation
         → result ≡ points_of modulation (take (row_of rate).coded_bits bits.now) }
-    ensures within { AreWithin 700 result }
+    ensures within { PairsWithin 700 result }
 {
     let width = modulation.bits_per_carrier();
     let mut points = [Cx { re: 0, im: 0 }; 48];

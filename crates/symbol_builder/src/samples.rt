@@ -1,9 +1,8 @@
 //! The carriers and the samples of a symbol.
 ghost use Rattle.std.specs.Prelude.{◌≡◌};
-ghost use Rattle.butterfly64.specs.Bounds.{AreWithin};
-ghost use Rattle.lane_kernels.specs.Lanes.{sample_at};
+ghost use Rattle.fixed_complex.specs.PairLists.{PairsWithin};
+ghost use Rattle.fixed_complex.specs.Samples.{sample_at, SamplesWithin};
 ghost use Rattle.training_fields.specs.Bins.{all_bins};
-ghost use Rattle.training_fields.specs.Bounds.{AreSamplesWithin};
 ghost use Rattle.training_fields.specs.Nearness.{AreNearPlain};
 ghost use Rattle.symbol_builder.specs.Carriers.{pilot_at, plain_symbol, sent_symbol, symbol_bins, symbol_times};
 
@@ -19,9 +18,9 @@ const PILOT_AMPLITUDE: i64 = 648;
 /// their data numbers, the four pilots with the polarity of n, and 0 elsewhere (IEEE Std 802.11-2012, 18.3.5.9 and
 /// 18.3.5.10). SIGNAL has n = 0, and the DATA symbols have n = 1 and on. Takes no memory.
 pub fn carriers(points: &[Cx; 48], n: u32) -> [Cx; 64]
-    requires { AreWithin 700 points.now }
+    requires { PairsWithin 700 points.now }
     ensures carriers { result ≡ symbol_bins points.now n }
-    ensures within { AreWithin 700 result }
+    ensures within { PairsWithin 700 result }
 {
     let mut carriers = pilots(n);
     for k in 0..48 {
@@ -47,10 +46,10 @@ fn pilots(n: u32) -> [Cx; 64]
 /// (IEEE Std 802.11-2012, 18.3.2.5 and 18.3.5.10). Each sample is within 1 of the plain one, and no component is
 /// larger than 25057 in size (own). Takes no memory.
 pub fn symbol_samples(points: &[Cx; 48], n: u32) -> [Sample; 80]
-    requires { AreWithin 700 points.now }
+    requires { PairsWithin 700 points.now }
     ensures samples { result ≡ sent_symbol points.now n }
     ensures near { AreNearPlain 1 result (plain_symbol points.now n) }
-    ensures within { AreSamplesWithin 25057 result }
+    ensures within { SamplesWithin 25057 result }
 {
     with_prefix(&sent_samples(&carriers(points, n)))
 }

@@ -1,13 +1,13 @@
 // Samples of symbols beside those that were computed elsewhere.
 ghost use Rattle.std.specs.Prelude.{◌≤◌, unsigned_abs};
-ghost use Rattle.butterfly64.specs.Bounds.{AreWithin};
+ghost use Rattle.fixed_complex.specs.PairLists.{PairsWithin};
 
 use super::*;
 use fixed_complex::Sample;
 
 // Points of all levels of 64-QAM.
 fn points() -> [Cx; 48]
-    ensures { AreWithin 700 result }
+    ensures { PairsWithin 700 result }
 {
     let mut points = [Cx { re: 0, im: 0 }; 48];
     for k in 0..48usize {

@@ -4,12 +4,13 @@ use Rattle.std.specs.List.{range_with_len}
 use Rattle.std.proofs.lemmas.List.FromFn.{length-map-range_with_len}
 use Rattle.fixed_complex.specs.declared.Cx.{Cx}
 use Rattle.fixed_complex.specs.declared.Sample.{Sample}
-use Rattle.butterfly64.specs.StagedSums.{entry}
-use Rattle.lane_kernels.specs.Lanes.{sample_at}
+use Rattle.fixed_complex.specs.PairLists.{entry}
+use Rattle.fixed_complex.specs.Samples.{sample_at, SamplesWithin, IsSampleWithin}
 use Rattle.training_fields.specs.Bodies.{all_times, plain_body, sent_body}
-use Rattle.training_fields.specs.Bounds.{AreSamplesWithin, IsSampleWithin}
 use Rattle.training_fields.specs.Nearness.{AreNearPlain, IsNearPlain}
-use Rattle.training_fields.proofs.Places.{entry-map, near-map, plain_body-local, sample-map, sent_body-local, within-map}
+use Rattle.training_fields.proofs.Places.{near-map, plain_body-local, sent_body-local, within-map}
+use Rattle.fixed_complex.proofs.PairLists.{entry-map}
+use Rattle.fixed_complex.proofs.Samples.{sample-map}
 
 -- samples are the body of what is carried by bin: exactly, near the plain body, and within their bound
 pub record IsBody (carried : ℕ → Cx) (samples : List Sample) : Type 0 where
@@ -18,7 +19,7 @@ pub record IsBody (carried : ℕ → Cx) (samples : List Sample) : Type 0 where
   pub within : (n : ℕ) → n < 64 → IsSampleWithin 25057 (sample_at samples n)
 
 -- so are the samples that are sent for a list of carriers
-pub is_body : (xs : List Cx) (carried : ℕ → Cx) (samples : List Sample) → ((bin : ℕ) → bin < 64 → entry xs bin ≡ carried bin) → samples ≡ all_times (sent_body (entry xs)) → AreNearPlain 1 samples (all_times (plain_body (entry xs))) → AreSamplesWithin 25057 samples → IsBody carried samples
+pub is_body : (xs : List Cx) (carried : ℕ → Cx) (samples : List Sample) → ((bin : ℕ) → bin < 64 → entry xs bin ≡ carried bin) → samples ≡ all_times (sent_body (entry xs)) → AreNearPlain 1 samples (all_times (plain_body (entry xs))) → SamplesWithin 25057 samples → IsBody carried samples
 is_body xs carried samples same e near within =
     let long : length samples ≡ 64 = ap length e ∙ length-map-range_with_len (sent_body (entry xs)) 0 64 in
     record {
@@ -36,5 +37,5 @@ exact-at carried samples place size body below = ap (λ f. map f (range_with_len
 pub near-at : (carried : ℕ → Cx) (samples : List Sample) (place : ℕ → ℕ) (size : ℕ) → IsBody carried samples → ((time : ℕ) → place time < 64) → AreNearPlain 1 (map (λ time. sample_at samples (place time)) (range_with_len 0 size)) (map (λ time. plain_body carried (place time)) (range_with_len 0 size))
 near-at carried samples place size body below = near-map 1 _ _ size (λ time lt. body.near (place time) (below time))
 
-pub within-at : (carried : ℕ → Cx) (samples : List Sample) (place : ℕ → ℕ) (size : ℕ) → IsBody carried samples → ((time : ℕ) → place time < 64) → AreSamplesWithin 25057 (map (λ time. sample_at samples (place time)) (range_with_len 0 size))
+pub within-at : (carried : ℕ → Cx) (samples : List Sample) (place : ℕ → ℕ) (size : ℕ) → IsBody carried samples → ((time : ℕ) → place time < 64) → SamplesWithin 25057 (map (λ time. sample_at samples (place time)) (range_with_len 0 size))
 within-at carried samples place size body below = within-map 25057 _ size (λ time lt. body.within (place time) (below time))

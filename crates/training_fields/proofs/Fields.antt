@@ -7,12 +7,12 @@ use Rattle.std.proofs.lemmas.Int.{ints}
 use Rattle.std.proofs.lemmas.List.FromFn.{length-map-range_with_len}
 use Rattle.fixed_complex.specs.declared.Cx.{Cx}
 use Rattle.fixed_complex.specs.Pairs.{IsOfSize, IsWithin}
-use Rattle.butterfly64.specs.Bounds.{AreWithin}
+use Rattle.fixed_complex.specs.PairLists.{PairsWithin}
 use Rattle.training_fields.specs.Bins.{all_bins, by_bin, carrier_in}
 use Rattle.training_fields.specs.Bounds.{FitASample}
 use Rattle.training_fields.specs.Signs.{sign_at}
 use Rattle.training_fields.specs.Training.{long_carrier, long_sign_of, short_carrier, short_sign_of}
-use Rattle.training_fields.proofs.Places.{entry-map}
+use Rattle.fixed_complex.proofs.PairLists.{entry-map}
 use Rattle.fixed_complex.proofs.ByTable.{is_of_size, is_within, size_test, within_test}
 
 -- a pair is of a size and within a bound, as a test
@@ -26,7 +26,7 @@ pub of_bound : (size bound : ℕ) (x : Cx) → fits_test size bound x ≡ true �
 of_bound size bound x h = is_within bound x (and_parts (size_test size x) (within_test bound x) h).1
 
 -- carriers that pass the test in each bin
-pub carriers_within : (sizes : ℕ → ℕ) (bound : ℕ) (x : ℕ → Cx) → ((bin : ℕ) → bin < 64 → fits_test (sizes bin) bound (x bin) ≡ true) → AreWithin bound (map x (range_with_len 0 64))
+pub carriers_within : (sizes : ℕ → ℕ) (bound : ℕ) (x : ℕ → Cx) → ((bin : ℕ) → bin < 64 → fits_test (sizes bin) bound (x bin) ≡ true) → PairsWithin bound (map x (range_with_len 0 64))
 carriers_within sizes bound x h = record {
   each = λ bin lt.
       let below : bin < 64 = omega (arith, length-map-range_with_len x 0 64) in
@@ -52,7 +52,7 @@ short_total : sum (map short_size (range_with_len 0 64)) ≤ 50112
 unfolding sign_at short_size
 short_total = leb-true _ _ refl
 
-pub short_within : AreWithin 954 (all_bins short_carrier)
+pub short_within : PairsWithin 954 (all_bins short_carrier)
 short_within = carriers_within short_size 954 (by_bin short_carrier) short_passes
 
 pub short_fits : FitASample (all_bins short_carrier)
@@ -70,7 +70,7 @@ long_total : sum (map long_size (range_with_len 0 64)) ≤ 50112
 unfolding sign_at long_size
 long_total = leb-true _ _ refl
 
-pub long_within : AreWithin 954 (all_bins long_carrier)
+pub long_within : PairsWithin 954 (all_bins long_carrier)
 long_within = carriers_within long_size 954 (by_bin long_carrier) long_passes
 
 pub long_fits : FitASample (all_bins long_carrier)

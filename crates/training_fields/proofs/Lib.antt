@@ -1,5 +1,4 @@
 pub mod Signs
-pub mod Filled
 pub mod Parts
 pub mod Places
 pub mod Loads

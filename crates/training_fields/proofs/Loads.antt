@@ -9,11 +9,12 @@ use Rattle.fixed_complex.specs.declared.Cx.{Cx}
 use Rattle.fixed_complex.specs.Laws.{sum_below}
 use Rattle.fixed_complex.specs.Pairs.{IsOfSize, IsWithin, times}
 use Rattle.fixed_complex.specs.Turns.{turn_at}
-use Rattle.butterfly64.specs.StagedSums.{entry}
-use Rattle.butterfly64.proofs.Sizes.{wider, size-plus, size-times, within-size}
-use Rattle.butterfly64.proofs.TurnSizes.{turn-size}
+use Rattle.fixed_complex.specs.PairLists.{entry}
+use Rattle.fixed_complex.proofs.PairSizes.{wider, size-plus, size-times, within-size}
+use Rattle.fixed_complex.proofs.TurnLaws.{turn-size}
 use Rattle.training_fields.specs.Bodies.{plain_body, sample_of, sent_body}
-use Rattle.training_fields.specs.Bounds.{FitASample, IsSampleWithin}
+use Rattle.training_fields.specs.Bounds.{FitASample}
+use Rattle.fixed_complex.specs.Samples.{IsSampleWithin}
 use Rattle.training_fields.specs.Nearness.{IsNearPlain}
 
 -- the sizes of the first bins

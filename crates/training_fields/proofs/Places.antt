@@ -10,36 +10,16 @@ use Rattle.fixed_complex.specs.declared.Sample.{Sample}
 use Rattle.fixed_complex.specs.Laws.{sum_below}
 use Rattle.fixed_complex.specs.Pairs.{IsWithin, plus, times, zero_pair, multiple}
 use Rattle.fixed_complex.specs.Turns.{turn_at}
-use Rattle.butterfly64.specs.Bounds.{AreWithin}
-use Rattle.butterfly64.specs.StagedSums.{entry}
+use Rattle.fixed_complex.specs.PairLists.{PairsWithin, entry}
 use Rattle.butterfly64.proofs.Halves.{up_at-local}
-use Rattle.lane_kernels.specs.Lanes.{sample_at}
+use Rattle.fixed_complex.specs.Samples.{sample_at, SamplesWithin, IsSampleWithin}
 use Rattle.training_fields.specs.Bodies.{plain_body, sample_of, sent_body}
-use Rattle.training_fields.specs.Bounds.{AreSamplesWithin, IsSampleWithin}
 use Rattle.training_fields.specs.Nearness.{AreNearPlain, IsNearPlain}
-
--- ---- entries of lists by place
-pub entry-map : (f : ℕ → Cx) (size n : ℕ) → n < size → entry (map f (range_with_len 0 size)) n ≡ f n
-entry-map f size n lt = get_or-map-range_with_len f 0 size n n zero_pair lt (omega arith)
-
-pub sample-map : (f : ℕ → Sample) (size n : ℕ) → n < size → sample_at (map f (range_with_len 0 size)) n ≡ f n
-sample-map f size n lt = get_or-map-range_with_len f 0 size n n _ lt (omega arith)
-
--- a bound on a list holds past its end too, where the entries are 0
-pub everywhere_within : (bound : ℕ) (xs : List Cx) → AreWithin bound xs → (n : ℕ) → IsWithin bound (entry xs n)
-everywhere_within bound xs within n =
-    elim (cases_lt n (length xs)) [
-      | inl here ↦ within.each n here
-      | inr past ↦ rw (get_or_past xs n zero_pair past) (record { re = omega arith; im = omega arith })
-    ]
+use Rattle.fixed_complex.proofs.Sums.{sum-local}
+use Rattle.fixed_complex.proofs.PairLists.{entry-map}
+use Rattle.fixed_complex.proofs.Samples.{sample-map}
 
 -- ---- bodies of what is the same in all bins
-sum-local : (k : ℕ) (f g : ℕ → Cx) → ((m : ℕ) → m < k → f m ≡ g m) → sum_below k f ≡ sum_below k g
-unfolding sum_below
-sum-local zero f g same = refl
-sum-local (suc k) f g same =
-    ap (λ s. plus s (f k)) (sum-local k f g (λ m lt. same m (omega arith))) ∙ ap (plus (sum_below k g)) (same k (omega arith))
-
 pub plain_body-local : (x y : ℕ → Cx) → ((bin : ℕ) → bin < 64 → x bin ≡ y bin) → (n : ℕ) → plain_body x n ≡ plain_body y n
 plain_body-local x y same n =
     sum-local 64 (λ c. times (x c) (turn_at (c * n))) (λ c. times (y c) (turn_at (c * n))) (λ c lt. ap (λ p. times p (turn_at (c * n))) (same c lt))
@@ -54,7 +34,7 @@ near-map bound f g size near = record {
   each = λ n lt. let below : n < size = omega (arith, length-map-range_with_len f 0 size) in rw (sample-map f size n below, entry-map g size n below) (near n below);
 }
 
-pub within-map : (bound : ℕ) (f : ℕ → Sample) (size : ℕ) → ((n : ℕ) → n < size → IsSampleWithin bound (f n)) → AreSamplesWithin bound (map f (range_with_len 0 size))
+pub within-map : (bound : ℕ) (f : ℕ → Sample) (size : ℕ) → ((n : ℕ) → n < size → IsSampleWithin bound (f n)) → SamplesWithin bound (map f (range_with_len 0 size))
 within-map bound f size within = record {
   each = λ n lt. let below : n < size = omega (arith, length-map-range_with_len f 0 size) in rw (sample-map f size n below) (within n below);
 }
@@ -73,7 +53,7 @@ near-append bound xs ys us vs first second = record {
       ];
 }
 
-pub within-append : (bound : ℕ) (xs ys : List Sample) → AreSamplesWithin bound xs → AreSamplesWithin bound ys → AreSamplesWithin bound (xs ++ ys)
+pub within-append : (bound : ℕ) (xs ys : List Sample) → SamplesWithin bound xs → SamplesWithin bound ys → SamplesWithin bound (xs ++ ys)
 within-append bound xs ys first second = record {
   each = λ n lt.
       elim (cases_lt n (length xs)) [

@@ -5,11 +5,9 @@ use Rattle.fixed_complex.specs.declared.Cx.{Cx}
 use Rattle.fixed_complex.specs.declared.Sample.{Sample}
 use Rattle.butterfly64.specs.StagedSums.{up_at}
 use Rattle.butterfly64.specs.PlainSums.{plain_up}
-use Rattle.butterfly64.specs.Samples.{by_256, rounded_pair}
-
--- the sample whose parts are those of a pair
-abbrev pub as_sample : Cx → Sample
-as_sample z = record { i = z.re; q = z.im }
+use Rattle.fixed_complex.specs.PairLists.{by_256}
+use Rattle.fixed_complex.specs.Pairs.{rounded_pair}
+use Rattle.fixed_complex.specs.Samples.{as_sample}
 
 -- a sample whose parts are those of a pair over 2^bits, rounded half up
 abbrev pub sample_of : ℕ → Cx → Sample

@@ -2,8 +2,8 @@
 use Rattle.std.specs.Prelude.{◌≡◌, ℕ, ◌*◌, ◌<◌, ◌≤◌, ◌^◌, List, length, unsigned_abs, pos, ◌-ℤ◌, ◌*ℤ◌}
 use Rattle.fixed_complex.specs.declared.Cx.{Cx}
 use Rattle.fixed_complex.specs.declared.Sample.{Sample}
-use Rattle.butterfly64.specs.StagedSums.{entry}
-use Rattle.lane_kernels.specs.Lanes.{sample_at}
+use Rattle.fixed_complex.specs.PairLists.{entry}
+use Rattle.fixed_complex.specs.Samples.{sample_at}
 
 -- a sample is within a bound of a real sample, which is a plain pair over 2^21, in each component
 pub record IsNearPlain (bound : ℕ) (sample : Sample) (plain : Cx) : Type 0 where

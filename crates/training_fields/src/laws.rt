@@ -2,12 +2,12 @@
 //! each ensures is the law.
 
 ghost use Rattle.std.specs.Prelude.{◌≡◌, ◌&&◌, ◌++◌, ℕ, List, nat_lt, ℤ, unsigned_abs, if◌then◌else◌};
-ghost use Rattle.butterfly64.specs.Bounds.{AreWithin};
-ghost use Rattle.butterfly64.specs.StagedSums.{entry};
+ghost use Rattle.fixed_complex.specs.PairLists.{PairsWithin, entry};
 ghost use Rattle.fixed_complex.specs.declared.Cx.{Cx};
 ghost use Rattle.fixed_complex.specs.declared.Sample.{Sample};
 ghost use Rattle.training_fields.specs.Bodies.{all_times, plain_body, sent_body};
-ghost use Rattle.training_fields.specs.Bounds.{AreSamplesWithin, FitASample};
+ghost use Rattle.training_fields.specs.Bounds.{FitASample};
+ghost use Rattle.fixed_complex.specs.Samples.{SamplesWithin};
 ghost use Rattle.training_fields.specs.Nearness.{AreNearPlain};
 ghost use Rattle.training_fields.specs.Training.{long_sign_of, preamble_of};
 
@@ -22,17 +22,17 @@ pub fn carriers_of_long_training()
 pub fn samples_behind_samples()
     ensures near { (bound : ℕ) (front back : List Sample) (plain behind : List Cx) → AreNearPlain bound front plain
         → AreNearPlain bound back behind → AreNearPlain bound (front ++ back) (plain ++ behind) }
-    ensures within { (bound : ℕ) (front back : List Sample) → AreSamplesWithin bound front
-        → AreSamplesWithin bound back → AreSamplesWithin bound (front ++ back) }
+    ensures within { (bound : ℕ) (front back : List Sample) → SamplesWithin bound front
+        → SamplesWithin bound back → SamplesWithin bound (front ++ back) }
 {}
 
 /// The body that is sent of any 64 carriers with components of at most 954 that fit a sample is within 1 of the plain
 /// body, and no component is larger than 25057 in size (own).
 pub fn sent_bodies()
-    ensures near { (carriers : List Cx) → AreWithin 954 carriers
+    ensures near { (carriers : List Cx) → PairsWithin 954 carriers
         → AreNearPlain 1 (all_times (sent_body (entry carriers))) (all_times (plain_body (entry carriers))) }
-    ensures within { (carriers : List Cx) → AreWithin 954 carriers → FitASample carriers
-        → AreSamplesWithin 25057 (all_times (sent_body (entry carriers))) }
+    ensures within { (carriers : List Cx) → PairsWithin 954 carriers → FitASample carriers
+        → SamplesWithin 25057 (all_times (sent_body (entry carriers))) }
 {
     butterfly64::laws::sent_samples();
 }
@@ -41,7 +41,7 @@ pub fn sent_bodies()
 /// size (own).
 pub fn sent_preamble()
     ensures near { AreNearPlain 1 (preamble_of sent_body) (preamble_of plain_body) }
-    ensures within { AreSamplesWithin 25057 (preamble_of sent_body) }
+    ensures within { SamplesWithin 25057 (preamble_of sent_body) }
 {
     butterfly64::laws::sent_samples();
 }

@@ -4,14 +4,12 @@
 ghost use Rattle.std.specs.Prelude.{◌≡◌, ℕ, ◌+◌, ◌*◌, ◌^◌, ◌<◌, ◌≤◌, ◌++◌, map, unsigned_abs};
 ghost use Rattle.fixed_complex.specs.Pairs.{IsWithin};
 ghost use Rattle.fixed_complex.specs.Rounding.{half_up};
-ghost use Rattle.butterfly64.specs.Bounds.{AreWithin};
-ghost use Rattle.butterfly64.specs.Samples.{by_256};
-ghost use Rattle.butterfly64.specs.StagedSums.{entry};
-ghost use Rattle.lane_kernels.specs.Lanes.{sample_at};
+ghost use Rattle.fixed_complex.specs.PairLists.{PairsWithin, by_256, entry};
+ghost use Rattle.fixed_complex.specs.Samples.{sample_at, SamplesWithin, IsSampleWithin};
 ghost use Rattle.training_fields.specs.Signs.{sign_at, sign_of};
 ghost use Rattle.training_fields.specs.Bins.{all_bins, carrier_in};
 ghost use Rattle.training_fields.specs.Bodies.{all_times, plain_body, plain_sample, sample_of, sent_body};
-ghost use Rattle.training_fields.specs.Bounds.{AreSamplesWithin, FitASample, IsSampleWithin};
+ghost use Rattle.training_fields.specs.Bounds.{FitASample};
 ghost use Rattle.training_fields.specs.Nearness.{AreNearPlain};
 ghost use Rattle.training_fields.specs.Training.{long_carrier, long_sign_of, long_times, preamble_of, short_carrier, short_sign_of, short_times, template_of};
 
@@ -120,7 +118,7 @@ fn carrier_in(bin: usize) -> i32
 pub fn preamble() -> [Sample; 320]
     ensures samples { result ≡ preamble_of sent_body }
     ensures near { AreNearPlain 1 result (preamble_of plain_body) }
-    ensures within { AreSamplesWithin 25057 result }
+    ensures within { SamplesWithin 25057 result }
 {
     in_time(
         &sent_samples(&short_carriers()),
@@ -144,11 +142,11 @@ fn in_time(short: &[Sample; 64], long: &[Sample; 64]) -> [Sample; 320]
 /// and with bounds on the sizes of the 64 pairs that sum to at most 50112 (own). Each sample is within 1 of the plain
 /// one, which is half the sum of the carriers, and no component is larger than 25057 in size.
 pub fn sent_samples(carriers: &[Cx; 64]) -> [Sample; 64]
-    requires within { AreWithin 954 carriers.now }
+    requires within { PairsWithin 954 carriers.now }
     requires fits { FitASample carriers.now }
     ensures samples { result ≡ all_times (sent_body (entry carriers.now)) }
     ensures near { AreNearPlain 1 result (all_times (plain_body (entry carriers.now))) }
-    ensures within { AreSamplesWithin 25057 result }
+    ensures within { SamplesWithin 25057 result }
 {
     butterfly64::laws::sent_samples();
     let sums = up(&by_256(carriers));
@@ -161,9 +159,9 @@ pub fn sent_samples(carriers: &[Cx; 64]) -> [Sample; 64]
 
 // The carriers times 256.
 fn by_256(carriers: &[Cx; 64]) -> [Cx; 64]
-    requires { AreWithin 954 carriers.now }
+    requires { PairsWithin 954 carriers.now }
     ensures carriers { (bin : ℕ) → bin < 64 → entry result bin ≡ by_256 (entry carriers.now) bin }
-    ensures within { AreWithin (2 ^ 30) result }
+    ensures within { PairsWithin (2 ^ 30) result }
 {
     let mut enlarged = *carriers;
     for bin in 0..64 {
@@ -190,7 +188,7 @@ fn over_2_9(sum: Cx) -> Sample
 /// component rounded half up (own).
 pub fn template() -> [Sample; 320]
     ensures samples { result ≡ template_of }
-    ensures within { AreSamplesWithin 25057 result }
+    ensures within { SamplesWithin 25057 result }
 {
     in_time(
         &plain_samples(&short_carriers()),
@@ -200,10 +198,10 @@ pub fn template() -> [Sample; 320]
 
 // The plain body, rounded to samples.
 fn plain_samples(carriers: &[Cx; 64]) -> [Sample; 64]
-    requires within { AreWithin 954 carriers.now }
+    requires within { PairsWithin 954 carriers.now }
     requires fits { FitASample carriers.now }
     ensures samples { result ≡ all_times (plain_sample (entry carriers.now)) }
-    ensures within { AreSamplesWithin 25057 result }
+    ensures within { SamplesWithin 25057 result }
 {
     let mut samples = [SILENCE; 64];
     for n in 0..64 {
@@ -214,7 +212,7 @@ fn plain_samples(carriers: &[Cx; 64]) -> [Sample; 64]
 
 // The plain sum of the carriers at a time: 2^21 times a real sample.
 fn plain_sum(carriers: &[Cx; 64], n: usize) -> Cx
-    requires within { AreWithin 954 carriers.now }
+    requires within { PairsWithin 954 carriers.now }
     requires time { n < 64 }
     ensures { result ≡ plain_body (entry carriers.now) n }
 {

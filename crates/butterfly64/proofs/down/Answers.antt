@@ -1,5 +1,6 @@
 use Rattle.std.proofs.Common.{rules}
-use Rattle.butterfly64.proofs.SumSizes.{of_size-within, size-down_sums, within-down_sums}
+use Rattle.butterfly64.proofs.SumSizes.{size-down_sums, within-down_sums}
+use Rattle.fixed_complex.proofs.PairLists.{of_size-within}
 use Rattle.butterfly64.proofs.InPlace.{down_of_mirrored}
 use Rattle.butterfly64.proofs.down.Goals as goal
 

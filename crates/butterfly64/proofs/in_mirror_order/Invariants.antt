@@ -1,5 +1,5 @@
 use Rattle.std.proofs.Common.{◌≡◌, ℕ, ◌<◌, length}
-use Rattle.butterfly64.specs.StagedSums.{entry}
+use Rattle.fixed_complex.specs.PairLists.{entry}
 use Rattle.butterfly64.specs.MirrorOrder.{mirror_of}
 use Rattle.butterfly64.proofs.in_mirror_order.Given as goal
 

@@ -1,7 +1,7 @@
 use Rattle.std.proofs.Common.{◌≡◌, ℕ, ◌*◌, ◌<◌, ◌≤◌}
 use Rattle.fixed_complex.specs.Pairs.{plus, minus, scaled_product}
 use Rattle.fixed_complex.specs.Turns.{turn_at}
-use Rattle.butterfly64.specs.StagedSums.{entry}
+use Rattle.fixed_complex.specs.PairLists.{entry}
 use Rattle.butterfly64.proofs.join.Given as goal
 
 -- what is done so far, and what is left

@@ -2,8 +2,8 @@ use Rattle.std.proofs.Common.{◌≡◌, ℕ, ◌^◌, arith}
 use Rattle.fixed_complex.specs.declared.Cx.{Cx}
 use Rattle.fixed_complex.specs.Pairs.{IsWithin, IsOfSize, scaled_product}
 use Rattle.fixed_complex.specs.Turns.{turn_at}
-use Rattle.butterfly64.proofs.Sizes.{wider, within-size, size-scaled_product}
-use Rattle.butterfly64.proofs.TurnSizes.{turn-within, turn-size}
+use Rattle.fixed_complex.proofs.PairSizes.{wider, within-size, size-scaled_product}
+use Rattle.fixed_complex.proofs.TurnLaws.{turn-within, turn-size}
 use Rattle.butterfly64.proofs.joined.Goals as goal
 
 pub scaled-turned-requires-clause-w : goal.scaled-turned-requires-clause-w

@@ -1,6 +1,6 @@
 use Rattle.std.proofs.Common.{◌^◌, arith}
-use Rattle.butterfly64.proofs.Sizes.{wider, within_wider, within-size, within-conjugate, size-minus}
-use Rattle.butterfly64.proofs.TurnSizes.{turn-within}
+use Rattle.fixed_complex.proofs.PairSizes.{wider, within_wider, within-size, within-conjugate, size-minus}
+use Rattle.fixed_complex.proofs.TurnLaws.{turn-within}
 use Rattle.butterfly64.proofs.parted.Goals as goal
 
 pub conj-requires : goal.conj-requires

@@ -1,5 +1,6 @@
 use Rattle.std.proofs.Common.{rules}
-use Rattle.butterfly64.proofs.SumSizes.{of_size-within, size-up_sums, within-up_sums}
+use Rattle.butterfly64.proofs.SumSizes.{size-up_sums, within-up_sums}
+use Rattle.fixed_complex.proofs.PairLists.{of_size-within}
 use Rattle.butterfly64.proofs.InPlace.{mirrored_sizes, up_of_mirrored}
 use Rattle.butterfly64.proofs.up_scalar.Goals as goal
 

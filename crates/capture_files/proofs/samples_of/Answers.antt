@@ -1,7 +1,7 @@
 use Rattle.std.proofs.Common.{[], arith}
 use Rattle.std.proofs.lemmas.Grind.{common_steps}
 use Rattle.std.proofs.lemmas.List.Elements.{All-append, All-cons, All-nil}
-use Rattle.capture_files.specs.Captures.{IsSample}
+use Rattle.fixed_complex.specs.Samples.{IsSample}
 use Rattle.capture_files.proofs.Bytes.{samples_more}
 use Rattle.capture_files.proofs.samples_of.Goals as goal
 

@@ -1,5 +1,6 @@
 use Rattle.std.proofs.Common.{◌≡◌, ◌*◌, length, take}
-use Rattle.capture_files.specs.Captures.{AreSamples, bytes_of_samples}
+use Rattle.capture_files.specs.Captures.{bytes_of_samples}
+use Rattle.fixed_complex.specs.Samples.{AreSamples}
 use Rattle.capture_files.proofs.samples_of.Given as goal
 
 abbrev pub invariant-loop-k : goal.invariant-loop-k

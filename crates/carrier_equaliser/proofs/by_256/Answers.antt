@@ -2,9 +2,9 @@ use Rattle.std.proofs.Common.{◌^◌, ◌≤◌, length, refl, arith, below_mor
 use Rattle.std.proofs.lemmas.Bool.{cases_lt}
 use Rattle.std.proofs.lemmas.List.{get_or_past}
 use Rattle.fixed_complex.specs.Pairs.{zero_pair}
-use Rattle.butterfly64.specs.Samples.{by_256}
-use Rattle.butterfly64.proofs.Inputs.{within-set, within-zeros}
-use Rattle.training_fields.proofs.Filled.{none_filled, one_more}
+use Rattle.fixed_complex.specs.PairLists.{by_256}
+use Rattle.fixed_complex.proofs.PairLists.{within-set, within-zeros}
+use Rattle.integer_laws.proofs.Filled.{none_filled, one_more}
 use Rattle.carrier_equaliser.specs.Received.{pair_at}
 use Rattle.carrier_equaliser.proofs.by_256.Goals as goal
 

@@ -1,13 +1,13 @@
 use Rattle.std.proofs.Common.{◌≡◌, ℕ, ◌^◌, ◌<◌, ◌∙◌, List, ap, refl, arith}
 use Rattle.fixed_complex.specs.declared.Cx.{Cx}
 use Rattle.fixed_complex.specs.declared.Sample.{Sample}
-use Rattle.fixed_complex.specs.Pairs.{zero_pair}
-use Rattle.butterfly64.specs.Samples.{by_256, rounded_pair}
-use Rattle.butterfly64.specs.StagedSums.{down_at, down_sums, entry}
+use Rattle.fixed_complex.specs.Pairs.{zero_pair, rounded_pair}
+use Rattle.fixed_complex.specs.PairLists.{by_256, entry}
+use Rattle.butterfly64.specs.StagedSums.{down_at, down_sums}
 use Rattle.butterfly64.proofs.Halves.{down_at-local}
-use Rattle.butterfly64.proofs.Sizes.{within-size}
-use Rattle.training_fields.proofs.Filled.{all_filled, none_filled, one_more}
-use Rattle.training_fields.proofs.Places.{entry-map}
+use Rattle.fixed_complex.proofs.PairSizes.{within-size}
+use Rattle.integer_laws.proofs.Filled.{all_filled, none_filled, one_more}
+use Rattle.fixed_complex.proofs.PairLists.{entry-map}
 use Rattle.carrier_equaliser.specs.Received.{pair_at, received_at}
 use Rattle.carrier_equaliser.proofs.carriers_of.Goals as goal
 

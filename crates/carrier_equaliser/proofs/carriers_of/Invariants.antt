@@ -1,5 +1,5 @@
 use Rattle.fixed_complex.specs.Pairs.{zero_pair}
-use Rattle.training_fields.proofs.Filled.{IsFilled}
+use Rattle.integer_laws.proofs.Filled.{IsFilled}
 use Rattle.carrier_equaliser.specs.Received.{pair_at, received_at}
 use Rattle.carrier_equaliser.proofs.carriers_of.Given as goal
 

@@ -1,8 +1,9 @@
 use Rattle.std.proofs.Common.{◌+◌, ap, ◌∙◌, refl, length-set, arith}
 use Rattle.std.specs.List.{slice_range}
 use Rattle.lane_kernels.specs.Kernels.{held_sum}
-use Rattle.lane_kernels.specs.Lanes.{sample_at}
-use Rattle.lane_kernels.proofs.Storing.{lane-held, same_sample, sums-more}
+use Rattle.fixed_complex.specs.Samples.{sample_at}
+use Rattle.lane_kernels.proofs.Storing.{lane-held, sums-more}
+use Rattle.fixed_complex.proofs.Samples.{same_sample}
 use Rattle.lane_kernels.proofs.Wholes.{sample-chunk}
 use Rattle.lane_kernels.proofs.add_eight.Goals as goal
 

@@ -1,7 +1,8 @@
 use Rattle.std.proofs.Common.{◌+◌, ◌^◌, ◌+ℤ◌, ◌*ℤ◌, ◌∙◌, arith}
 use Rattle.lane_kernels.proofs.Parts.{real_part}
 use Rattle.lane_kernels.specs.Kernels.{product_of}
-use Rattle.lane_kernels.specs.Lanes.{number_at, sample_at}
+use Rattle.lane_kernels.specs.Lanes.{number_at}
+use Rattle.fixed_complex.specs.Samples.{sample_at}
 use Rattle.lane_kernels.proofs.Totals.{eight-same, grown, two_more}
 use Rattle.lane_kernels.proofs.add_real_parts.Goals as goal
 

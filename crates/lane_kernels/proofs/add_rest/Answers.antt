@@ -1,6 +1,6 @@
 use Rattle.std.proofs.Common.{◌+◌, ap, ◌∙◌, refl, length-set, arith}
 use Rattle.lane_kernels.specs.Kernels.{held_sum}
-use Rattle.lane_kernels.specs.Lanes.{sample_at}
+use Rattle.fixed_complex.specs.Samples.{sample_at}
 use Rattle.lane_kernels.proofs.Storing.{sums-more}
 use Rattle.lane_kernels.proofs.add_rest.Goals as goal
 

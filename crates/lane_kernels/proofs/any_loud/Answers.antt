@@ -1,5 +1,6 @@
 use Rattle.std.proofs.Common.{◌≡◌, ap, ◌∙◌, refl}
-use Rattle.lane_kernels.specs.Lanes.{number_at, sample_at}
+use Rattle.lane_kernels.specs.Lanes.{number_at}
+use Rattle.fixed_complex.specs.Samples.{sample_at}
 use Rattle.lane_kernels.proofs.Totals.{eight-at}
 use Rattle.lane_kernels.proofs.any_loud.Goals as goal
 

@@ -3,8 +3,10 @@ use Rattle.std.proofs.lemmas.Int.{ints}
 use Rattle.fixed_complex.specs.declared.Cx.{Cx}
 use Rattle.fixed_complex.specs.Pairs.{IsWithin}
 use Rattle.lane_kernels.specs.Kernels.{dot_of, product_of}
-use Rattle.lane_kernels.specs.Lanes.{sample_at}
-use Rattle.lane_kernels.proofs.Parts.{conjugate-within, times-within, same_pair}
+use Rattle.fixed_complex.specs.Samples.{sample_at}
+use Rattle.lane_kernels.proofs.Parts.{times-within}
+use Rattle.fixed_complex.proofs.PairSizes.{within-conjugate}
+use Rattle.fixed_complex.proofs.Pairs.{same_parts}
 use Rattle.lane_kernels.proofs.Totals.{total-one}
 use Rattle.lane_kernels.proofs.Wholes.{dot-total_re, dot-total_im}
 use Rattle.lane_kernels.proofs.dot.Goals as goal
@@ -13,7 +15,7 @@ use Rattle.lane_kernels.proofs.dot.Goals.{After-mul}
 -- the product at the loop's place, and how large it is
 product-within : (c : After-mul) → IsWithin (2 ^ 31) c.mul.result
 product-within c =
-    let conjugated : IsWithin (2 ^ 15) c.conj.result = rw c.conj.ensures (conjugate-within c.pair-in-loop-n.result c.pair-in-loop-n.ensures.within) in
+    let conjugated : IsWithin (2 ^ 15) c.conj.result = rw c.conj.ensures (within-conjugate (2 ^ 15) c.pair-in-loop-n.result c.pair-in-loop-n.ensures.within) in
     rw c.mul.ensures (times-within c.pair.result c.conj.result c.pair.ensures.within conjugated)
 
 pub add-dot-requires-clause-b : goal.add-dot-requires-clause-b
@@ -43,6 +45,6 @@ returns c =
     let whole : c.loop-n.n ≡ length c.args.a.now = omega arith in
     let re = rw whole at c.loop-n.invariant.re in
     let im = rw whole at c.loop-n.invariant.im in
-    same_pair c.loop-n.dot (dot_of c.args.a.now c.args.b.now)
+    same_parts c.loop-n.dot (dot_of c.args.a.now c.args.b.now)
     (re ∙ sym (dot-total_re c.args.a.now c.args.b.now c.requires.long))
     (im ∙ sym (dot-total_im c.args.a.now c.args.b.now c.requires.long))

@@ -1,7 +1,7 @@
 use Rattle.std.proofs.Common.{◌≡◌, ℕ, ◌+◌, length, sym, ◌∙◌, refl, arith}
 use Rattle.std.proofs.lemmas.Int.{ints}
 use Rattle.lane_kernels.specs.Kernels.{power_of}
-use Rattle.lane_kernels.specs.Lanes.{sample_at}
+use Rattle.fixed_complex.specs.Samples.{sample_at}
 use Rattle.lane_kernels.proofs.Totals.{total-one}
 use Rattle.lane_kernels.proofs.Wholes.{energy-total}
 use Rattle.lane_kernels.proofs.energy.Goals as goal

@@ -1,7 +1,8 @@
 use Rattle.std.proofs.Common.{◌≡◌, ◌+◌, ◌*◌, ◌^◌, ◌≤◌}
 use Rattle.std.specs.Prelude.{unsigned_abs}
 use Rattle.lane_kernels.specs.Kernels.{power_of}
-use Rattle.lane_kernels.specs.Lanes.{sample_at, total_below}
+use Rattle.lane_kernels.specs.Lanes.{total_below}
+use Rattle.fixed_complex.specs.Samples.{sample_at}
 use Rattle.lane_kernels.proofs.energy.Given as goal
 
 abbrev pub invariant-loop-n : goal.invariant-loop-n

@@ -1,6 +1,7 @@
 use Rattle.std.proofs.Common.{rules}
 use Rattle.lane_kernels.specs.Kernels.{held_sum}
-use Rattle.lane_kernels.proofs.Storing.{same_sample, saturated_sum}
+use Rattle.lane_kernels.proofs.Storing.{saturated_sum}
+use Rattle.fixed_complex.proofs.Samples.{same_sample}
 use Rattle.lane_kernels.proofs.held_sum.Goals as goal
 
 pub returns : goal.returns

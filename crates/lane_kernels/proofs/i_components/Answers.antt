@@ -1,5 +1,6 @@
 use Rattle.std.proofs.Common.{pos, rules}
-use Rattle.lane_kernels.specs.Lanes.{IsOf16Bits, sample_at}
+use Rattle.lane_kernels.specs.Lanes.{IsOf16Bits}
+use Rattle.fixed_complex.specs.Samples.{sample_at}
 use Rattle.lane_kernels.proofs.Totals.{eight-each}
 use Rattle.lane_kernels.proofs.Widening.{of_16_bits, component_of_16_bits, component}
 use Rattle.lane_kernels.proofs.i_components.Goals as goal

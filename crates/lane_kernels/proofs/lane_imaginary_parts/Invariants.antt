@@ -1,6 +1,7 @@
 use Rattle.std.proofs.Common.{◌≡◌, ◌*◌, ◌^◌, length}
 use Rattle.lane_kernels.specs.Kernels.{product_of}
-use Rattle.lane_kernels.specs.Lanes.{AreWithin, sample_at, total_below, total_of}
+use Rattle.lane_kernels.specs.Lanes.{AreWithin, total_below, total_of}
+use Rattle.fixed_complex.specs.Samples.{sample_at}
 use Rattle.lane_kernels.proofs.lane_imaginary_parts.Given as goal
 
 abbrev pub invariant-loop-k : goal.invariant-loop-k

@@ -1,7 +1,8 @@
 use Rattle.std.proofs.Common.{◌+◌, ◌*◌, ◌^◌, ◌+ℤ◌, refl, ap, ◌∙◌, arith}
 use Rattle.std.specs.List.{slice_range}
 use Rattle.lane_kernels.specs.Kernels.{power_of}
-use Rattle.lane_kernels.specs.Lanes.{number_at, sample_at}
+use Rattle.lane_kernels.specs.Lanes.{number_at}
+use Rattle.fixed_complex.specs.Samples.{sample_at}
 use Rattle.lane_kernels.proofs.Totals.{eight-same, lanes-more}
 use Rattle.lane_kernels.proofs.Wholes.{none_yet, none_within, sample-chunk}
 use Rattle.lane_kernels.proofs.lane_powers.Goals as goal

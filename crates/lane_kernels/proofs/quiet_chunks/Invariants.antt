@@ -1,6 +1,6 @@
 use Rattle.std.proofs.Common.{◌≡◌, ℕ, ◌*◌, ◌<◌, false}
 use Rattle.lane_kernels.specs.Kernels.{is_loud}
-use Rattle.lane_kernels.specs.Lanes.{sample_at}
+use Rattle.fixed_complex.specs.Samples.{sample_at}
 use Rattle.lane_kernels.proofs.quiet_chunks.Given as goal
 
 abbrev pub invariant-loop-k : goal.invariant-loop-k

@@ -1,11 +1,10 @@
 use Rattle.std.proofs.Common.{◌<◌, arith}
 use Rattle.fixed_complex.specs.Pairs.{zero_pair}
-use Rattle.butterfly64.specs.Samples.{by_256}
-use Rattle.butterfly64.specs.StagedSums.{entry}
-use Rattle.butterfly64.proofs.PlainSumLaws.{pair_of}
-use Rattle.training_fields.proofs.Filled.{none_filled, one_more}
+use Rattle.fixed_complex.specs.PairLists.{by_256, entry}
+use Rattle.fixed_complex.proofs.Pairs.{same_parts}
+use Rattle.integer_laws.proofs.Filled.{none_filled, one_more}
 use Rattle.training_fields.proofs.Parts.{times_256, by_256_within}
-use Rattle.training_fields.proofs.Places.{everywhere_within}
+use Rattle.fixed_complex.proofs.PairLists.{everywhere_within}
 use Rattle.training_fields.proofs.by_256.Goals as goal
 
 pub loop-bin-init : goal.loop-bin-init
@@ -16,7 +15,7 @@ loop-bin-preserved c =
     let carrier = entry c.args.carriers.now c.loop-bin.bin in
     let within = everywhere_within 954 c.args.carriers.now c.requires c.loop-bin.bin in
     one_more zero_pair (by_256 (entry c.args.carriers.now)) 64 _ _ _ c.loop-bin.invariant c.loop-bin-test.true
-    (pair_of _ _ (times_256 carrier.re within.re) (times_256 carrier.im within.im))
+    (same_parts _ _ (times_256 carrier.re within.re) (times_256 carrier.im within.im))
 
 pub returns-clause-carriers : goal.returns-clause-carriers
 returns-clause-carriers c = λ bin lt. c.loop-bin.invariant.each bin (omega arith)

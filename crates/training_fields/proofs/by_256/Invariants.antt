@@ -1,7 +1,6 @@
 use Rattle.fixed_complex.specs.Pairs.{zero_pair}
-use Rattle.butterfly64.specs.Samples.{by_256}
-use Rattle.butterfly64.specs.StagedSums.{entry}
-use Rattle.training_fields.proofs.Filled.{IsFilled}
+use Rattle.fixed_complex.specs.PairLists.{by_256, entry}
+use Rattle.integer_laws.proofs.Filled.{IsFilled}
 use Rattle.training_fields.proofs.by_256.Given as goal
 
 abbrev pub invariant-loop-bin : goal.invariant-loop-bin

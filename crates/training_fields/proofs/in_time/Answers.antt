@@ -3,9 +3,9 @@ use Rattle.std.proofs.Math.ListN.{get_or-append}
 use Rattle.std.proofs.lemmas.Bool.{cases_lt}
 use Rattle.std.proofs.lemmas.List.{ext_get_or, get_or-append_right}
 use Rattle.fixed_complex.specs.declared.Sample.{Sample}
-use Rattle.lane_kernels.specs.Lanes.{sample_at}
+use Rattle.fixed_complex.specs.Samples.{sample_at}
 use Rattle.training_fields.specs.Training.{long_times, short_times}
-use Rattle.training_fields.proofs.Places.{sample-map}
+use Rattle.fixed_complex.proofs.Samples.{sample-map}
 use Rattle.training_fields.proofs.in_time.Goals as goal
 
 -- a sample written, and the others

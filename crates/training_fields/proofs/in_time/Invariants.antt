@@ -1,5 +1,5 @@
 use Rattle.std.proofs.Common.{◌≡◌, ℕ, ◌+◌, ◌<◌, ◌%◌, length}
-use Rattle.lane_kernels.specs.Lanes.{sample_at}
+use Rattle.fixed_complex.specs.Samples.{sample_at}
 use Rattle.training_fields.proofs.in_time.Given as goal
 
 abbrev pub invariant-loop-time : goal.invariant-loop-time

@@ -1,7 +1,7 @@
 use Rattle.std.proofs.Common.{◌∙◌, ap, arith}
-use Rattle.butterfly64.specs.StagedSums.{entry}
+use Rattle.fixed_complex.specs.PairLists.{entry}
 use Rattle.training_fields.specs.Bodies.{plain_sample, sample_of}
-use Rattle.training_fields.proofs.Filled.{one_more, all_filled}
+use Rattle.integer_laws.proofs.Filled.{one_more, all_filled}
 use Rattle.training_fields.proofs.Loads.{plain_sample_within}
 use Rattle.training_fields.proofs.Places.{within-map}
 use Rattle.training_fields.proofs.plain_samples.Goals as goal

@@ -1,7 +1,7 @@
 use Rattle.std.proofs.Common.{pos}
-use Rattle.butterfly64.specs.StagedSums.{entry}
+use Rattle.fixed_complex.specs.PairLists.{entry}
 use Rattle.training_fields.specs.Bodies.{plain_sample}
-use Rattle.training_fields.proofs.Filled.{IsFilled}
+use Rattle.integer_laws.proofs.Filled.{IsFilled}
 use Rattle.training_fields.proofs.plain_samples.Given as goal
 
 abbrev pub invariant-loop-n : goal.invariant-loop-n

@@ -2,7 +2,7 @@ use Rattle.std.proofs.Common.{◌≡◌, ◌*◌}
 use Rattle.fixed_complex.specs.Laws.{sum_below}
 use Rattle.fixed_complex.specs.Pairs.{times}
 use Rattle.fixed_complex.specs.Turns.{turn_at}
-use Rattle.butterfly64.specs.StagedSums.{entry}
+use Rattle.fixed_complex.specs.PairLists.{entry}
 use Rattle.training_fields.proofs.plain_sum.Given as goal
 
 abbrev pub invariant-loop-bin : goal.invariant-loop-bin

@@ -1,11 +1,11 @@
 use Rattle.std.proofs.Common.{◌≡◌, ℕ, ◌∙◌, ◌<◌, List, ap, arith}
 use Rattle.fixed_complex.specs.declared.Cx.{Cx}
-use Rattle.butterfly64.specs.Samples.{by_256}
-use Rattle.butterfly64.specs.StagedSums.{entry, up_at, up_sums}
+use Rattle.fixed_complex.specs.PairLists.{by_256, entry}
+use Rattle.butterfly64.specs.StagedSums.{up_at, up_sums}
 use Rattle.butterfly64.proofs.Halves.{up_at-local}
 use Rattle.training_fields.specs.Bodies.{sent_body, sample_of}
-use Rattle.training_fields.proofs.Filled.{one_more, all_filled}
-use Rattle.training_fields.proofs.Places.{entry-map}
+use Rattle.integer_laws.proofs.Filled.{one_more, all_filled}
+use Rattle.fixed_complex.proofs.PairLists.{entry-map}
 use Rattle.training_fields.proofs.Sent.{all_bounded, all_near, bounded}
 use Rattle.training_fields.proofs.sent_samples.Goals as goal
 

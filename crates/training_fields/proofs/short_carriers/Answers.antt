@@ -1,9 +1,9 @@
 use Rattle.std.proofs.Common.{◌≡◌, ◌∙◌, ap, refl, arith, w64, to_z, of_z, pos, ◌*ℤ◌}
 use Rattle.fixed_complex.specs.Pairs.{zero_pair}
-use Rattle.butterfly64.proofs.PlainSumLaws.{pair_of}
+use Rattle.fixed_complex.proofs.Pairs.{same_parts}
 use Rattle.training_fields.specs.Bins.{by_bin}
 use Rattle.training_fields.specs.Training.{short_carrier, short_sign_of}
-use Rattle.training_fields.proofs.Filled.{none_filled, one_more, all_filled}
+use Rattle.integer_laws.proofs.Filled.{none_filled, one_more, all_filled}
 use Rattle.training_fields.proofs.Parts.{carrier_held, signed_954}
 use Rattle.training_fields.proofs.short_carriers.Goals as goal
 
@@ -15,7 +15,7 @@ loop-bin-preserved c =
     let sign : c.short_sign-part.result ≡ short_sign_of _ = c.short_sign-part.ensures.sign ∙ ap short_sign_of (carrier_held _ c.loop-bin.bin c.carrier_in.ensures.within c.carrier_in.ensures.carrier) in
     let part : to_z w64 (of_z w64 (pos 954 *ℤ to_z w64 (of_z w64 c.short_sign-part.result))) ≡ _ =
     signed_954 c.short_sign-part.result c.short_sign-part.ensures.within ∙ ap (λ s. pos 954 *ℤ s) sign in
-    one_more zero_pair (by_bin short_carrier) 64 _ _ _ c.loop-bin.invariant c.loop-bin-test.true (pair_of _ _ part part)
+    one_more zero_pair (by_bin short_carrier) 64 _ _ _ c.loop-bin.invariant c.loop-bin-test.true (same_parts _ _ part part)
 
 pub returns : goal.returns
 returns c = all_filled zero_pair (by_bin short_carrier) 64 _ _ c.loop-bin.invariant (omega arith)

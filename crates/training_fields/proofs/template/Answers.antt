@@ -4,14 +4,15 @@ use Rattle.std.proofs.lemmas.List.{map-append}
 use Rattle.std.proofs.lemmas.List.FromFn.{length-map-range_with_len}
 use Rattle.fixed_complex.specs.declared.Cx.{Cx}
 use Rattle.fixed_complex.specs.declared.Sample.{Sample}
-use Rattle.butterfly64.specs.StagedSums.{entry}
-use Rattle.lane_kernels.specs.Lanes.{sample_at}
+use Rattle.fixed_complex.specs.PairLists.{entry}
+use Rattle.fixed_complex.specs.Samples.{sample_at, SamplesWithin}
 use Rattle.training_fields.specs.Bins.{by_bin}
 use Rattle.training_fields.specs.Bodies.{all_times, plain_body, plain_sample, sample_of}
-use Rattle.training_fields.specs.Bounds.{AreSamplesWithin}
 use Rattle.training_fields.specs.Training.{long_carrier, long_times, short_carrier, short_times, template_of}
 use Rattle.training_fields.proofs.Fields.{long_fits, long_within, short_fits, short_within}
-use Rattle.training_fields.proofs.Places.{entry-map, plain_body-local, sample-map, within-append, within-map}
+use Rattle.training_fields.proofs.Places.{plain_body-local, within-append, within-map}
+use Rattle.fixed_complex.proofs.PairLists.{entry-map}
+use Rattle.fixed_complex.proofs.Samples.{sample-map}
 use Rattle.training_fields.proofs.template.Goals as goal
 
 pub plain_samples-requires-clause-within : goal.plain_samples-requires-clause-within
@@ -46,7 +47,7 @@ both_rounded =
     ∙ ap (λ ys. map (sample_of 21) (short_times short) ++ ys) (rounded (λ time. long ((time + 32) % 64)) (range_with_len 0 160))
     ∙ sym (map-append (sample_of 21) (short_times short) (long_times long))
 
-plain_within-at : (samples : List Sample) (place : ℕ → ℕ) (size : ℕ) → length samples ≡ 64 → AreSamplesWithin 25057 samples → ((time : ℕ) → place time < 64) → AreSamplesWithin 25057 (map (λ time. sample_at samples (place time)) (range_with_len 0 size))
+plain_within-at : (samples : List Sample) (place : ℕ → ℕ) (size : ℕ) → length samples ≡ 64 → SamplesWithin 25057 samples → ((time : ℕ) → place time < 64) → SamplesWithin 25057 (map (λ time. sample_at samples (place time)) (range_with_len 0 size))
 plain_within-at samples place size long within below = within-map 25057 _ size (λ time lt. within.each (place time) (omega (arith, below time, long)))
 
 pub returns : goal.returns

@@ -2,7 +2,7 @@ use Rattle.butterfly64.proofs.SampleBudgets.{near_received, size_received}
 use Rattle.butterfly64.proofs.laws.received_carriers.Goals as goal
 
 pub returns-clause-near : goal.returns-clause-near
-returns-clause-near c = near_received c.whole_half_and_quarter_turns.ensures.whole c.whole_half_and_quarter_turns.ensures.half c.product_of_turns.ensures.size
+returns-clause-near c = near_received
 
 pub returns-clause-size : goal.returns-clause-size
 returns-clause-size c = size_received

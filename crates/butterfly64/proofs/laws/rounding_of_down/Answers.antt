@@ -2,4 +2,4 @@ use Rattle.butterfly64.proofs.DownBudget.{near_down_sums}
 use Rattle.butterfly64.proofs.laws.rounding_of_down.Goals as goal
 
 pub returns : goal.returns
-returns c = near_down_sums c.whole_half_and_quarter_turns.ensures.whole c.whole_half_and_quarter_turns.ensures.half c.product_of_turns.ensures.size
+returns c = near_down_sums

@@ -1,6 +1,6 @@
 use Rattle.std.proofs.Common.{◌≡◌, ℕ, ◌+◌, ◌<◌, length}
 use Rattle.butterfly64.specs.Lanes.{lane}
-use Rattle.butterfly64.specs.StagedSums.{entry}
+use Rattle.fixed_complex.specs.PairLists.{entry}
 use Rattle.butterfly64.proofs.many_eights.eight_from.Given as goal
 
 abbrev pub invariant-loop-l : goal.invariant-loop-l

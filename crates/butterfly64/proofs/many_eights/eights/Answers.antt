@@ -1,5 +1,5 @@
 use Rattle.std.proofs.Common.{◌≡◌, ◌+◌, ◌*◌, ◌/◌, ◌%◌, ap, ◌∙◌, arith, rules}
-use Rattle.butterfly64.specs.StagedSums.{entry}
+use Rattle.fixed_complex.specs.PairLists.{entry}
 use Rattle.butterfly64.proofs.PairsOfEights.{is_pairs_of}
 use Rattle.butterfly64.proofs.many_eights.eights.Goals as goal
 

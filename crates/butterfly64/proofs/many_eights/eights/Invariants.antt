@@ -1,6 +1,6 @@
 use Rattle.std.proofs.Common.{◌≡◌, ℕ, ◌+◌, ◌*◌, ◌<◌, length}
 use Rattle.butterfly64.specs.Lanes.{lane, eight_in}
-use Rattle.butterfly64.specs.StagedSums.{entry}
+use Rattle.fixed_complex.specs.PairLists.{entry}
 use Rattle.butterfly64.proofs.many_eights.eights.Given as goal
 
 abbrev pub invariant-loop-c : goal.invariant-loop-c

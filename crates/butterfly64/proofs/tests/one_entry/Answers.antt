@@ -1,5 +1,5 @@
 use Rattle.std.proofs.Common.{◌^◌, arith}
-use Rattle.butterfly64.proofs.Inputs.{within-set, within-zeros}
+use Rattle.fixed_complex.proofs.PairLists.{within-set, within-zeros}
 use Rattle.butterfly64.proofs.tests.one_entry.Goals as goal
 
 pub returns : goal.returns

@@ -1,6 +1,6 @@
 use Rattle.std.proofs.Common.{◌^◌, arith}
 use Rattle.std.proofs.lemmas.Int.{to_z-of_z}
-use Rattle.butterfly64.proofs.Inputs.{within-set, within-zeros}
+use Rattle.fixed_complex.proofs.PairLists.{within-set, within-zeros}
 use Rattle.butterfly64.proofs.tests.spread_entries.Goals as goal
 
 pub loop-n-init : goal.loop-n-init

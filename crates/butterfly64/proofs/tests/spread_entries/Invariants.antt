@@ -1,6 +1,6 @@
 use Rattle.std.proofs.Common.{◌^◌}
-use Rattle.butterfly64.specs.Bounds.{AreWithin}
+use Rattle.fixed_complex.specs.PairLists.{PairsWithin}
 use Rattle.butterfly64.proofs.tests.spread_entries.Given as goal
 
 abbrev pub invariant-loop-n : goal.invariant-loop-n
-invariant-loop-n l = AreWithin (2 ^ 30) l.x
+invariant-loop-n l = PairsWithin (2 ^ 30) l.x

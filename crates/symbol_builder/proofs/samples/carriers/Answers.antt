@@ -4,12 +4,11 @@ use Rattle.std.proofs.lemmas.Int.{ints}
 use Rattle.std.proofs.lemmas.List.FromFn.{length-map-range_with_len}
 use Rattle.fixed_complex.specs.declared.Cx.{Cx}
 use Rattle.fixed_complex.specs.Pairs.{zero_pair}
-use Rattle.butterfly64.specs.StagedSums.{entry}
-use Rattle.butterfly64.proofs.SumSizes.{is_by_place}
+use Rattle.fixed_complex.specs.PairLists.{entry}
+use Rattle.fixed_complex.proofs.PairLists.{is_by_place, entry-map}
 use Rattle.constellations.specs.Carriers.{bin_of, data_carrier_of}
 use Rattle.constellations.proofs.Tables.{carrier-good}
 use Rattle.training_fields.specs.Bins.{by_bin}
-use Rattle.training_fields.proofs.Places.{entry-map}
 use Rattle.symbol_builder.specs.Carriers.{pilot_at, symbol_bin}
 use Rattle.symbol_builder.proofs.Bins.{all_placed, none_placed, one_placed, others_stay, placed}
 use Rattle.symbol_builder.proofs.SymbolSizes.{symbol_within}

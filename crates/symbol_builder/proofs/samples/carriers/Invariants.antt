@@ -1,5 +1,5 @@
 use Rattle.std.proofs.Common.{◌≡◌, ℕ, ◌<◌, length}
-use Rattle.butterfly64.specs.StagedSums.{entry}
+use Rattle.fixed_complex.specs.PairLists.{entry}
 use Rattle.symbol_builder.proofs.Bins.{placed}
 use Rattle.symbol_builder.proofs.samples.carriers.Given as goal
 

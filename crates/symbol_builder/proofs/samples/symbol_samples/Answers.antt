@@ -1,8 +1,8 @@
 use Rattle.std.proofs.Common.{◌+◌, ◌%◌, ◌∙◌, ap, arith}
-use Rattle.butterfly64.specs.StagedSums.{entry}
-use Rattle.butterfly64.proofs.Sizes.{within_wider}
+use Rattle.fixed_complex.specs.PairLists.{entry}
+use Rattle.fixed_complex.proofs.PairSizes.{within_wider}
 use Rattle.training_fields.proofs.Bodies.{IsBody, exact-at, is_body, near-at, within-at}
-use Rattle.training_fields.proofs.Places.{entry-map}
+use Rattle.fixed_complex.proofs.PairLists.{entry-map}
 use Rattle.symbol_builder.specs.Carriers.{symbol_bin}
 use Rattle.symbol_builder.proofs.SymbolSizes.{symbol_fits}
 use Rattle.symbol_builder.proofs.samples.symbol_samples.Goals as goal

@@ -1,6 +1,6 @@
 use Rattle.std.proofs.Common.{◌+◌, ◌%◌, refl, arith}
-use Rattle.lane_kernels.specs.Lanes.{sample_at}
-use Rattle.training_fields.proofs.Filled.{all_filled, none_filled, one_more}
+use Rattle.fixed_complex.specs.Samples.{sample_at}
+use Rattle.integer_laws.proofs.Filled.{all_filled, none_filled, one_more}
 use Rattle.symbol_builder.proofs.samples.with_prefix.Goals as goal
 
 pub loop-time-init : goal.loop-time-init

@@ -1,6 +1,6 @@
 use Rattle.std.proofs.Common.{◌+◌, ◌%◌, pos}
-use Rattle.lane_kernels.specs.Lanes.{sample_at}
-use Rattle.training_fields.proofs.Filled.{IsFilled}
+use Rattle.fixed_complex.specs.Samples.{sample_at}
+use Rattle.integer_laws.proofs.Filled.{IsFilled}
 use Rattle.symbol_builder.proofs.samples.with_prefix.Given as goal
 
 abbrev pub invariant-loop-time : goal.invariant-loop-time

@@ -1,6 +1,6 @@
 use Rattle.std.proofs.Common.{arith}
 use Rattle.std.proofs.lemmas.Int.{to_z-of_z}
-use Rattle.butterfly64.proofs.Inputs.{within-set, within-zeros}
+use Rattle.fixed_complex.proofs.PairLists.{within-set, within-zeros}
 use Rattle.symbol_builder.proofs.tests.points.Goals as goal
 
 pub loop-k-init : goal.loop-k-init

@@ -1,5 +1,5 @@
-use Rattle.butterfly64.specs.Bounds.{AreWithin}
+use Rattle.fixed_complex.specs.PairLists.{PairsWithin}
 use Rattle.symbol_builder.proofs.tests.points.Given as goal
 
 abbrev pub invariant-loop-k : goal.invariant-loop-k
-invariant-loop-k l = AreWithin 700 l.points
+invariant-loop-k l = PairsWithin 700 l.points

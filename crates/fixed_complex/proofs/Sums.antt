@@ -1,33 +1,30 @@
--- Sums of pairs.
-use Rattle.std.proofs.Common.{◌≡◌, ℕ, zero, suc, ◌+◌, ◌*◌, refl, ap, sym, ◌∙◌, arith}
+-- Sums of pairs over places, and identities of sums and products.
+use Rattle.std.proofs.Common.{◌≡◌, ℕ, zero, suc, ◌+◌, ◌*◌, refl, ap, sym, ◌∙◌, arith, ◌<◌}
 use Rattle.std.specs.Prelude.{ℤ, pos, ◌+ℤ◌, ◌-ℤ◌, ◌*ℤ◌}
 use Rattle.fixed_complex.specs.declared.Cx.{Cx}
 use Rattle.fixed_complex.specs.Laws.{sum_below}
 use Rattle.fixed_complex.specs.Pairs.{IsOfSize, zero_pair, plus, minus, multiple, times}
 use Rattle.integer_laws.proofs.Ring.{ring, number, ◌⊕◌, ◌⊖◌, ◌⊗◌, ◌≗◌}
 use Rattle.integer_laws.proofs.Order.{pos-le}
-use Rattle.butterfly64.proofs.Sizes.{wider, size-plus}
-
--- a pair by its components
-pub pair_of : (a b : Cx) → a.re ≡ b.re → a.im ≡ b.im → a ≡ b
-pair_of a b re im = λ i. record { re = re i; im = im i }
+use Rattle.fixed_complex.proofs.PairSizes.{wider, size-plus}
+use Rattle.fixed_complex.proofs.Pairs.{same_parts}
 
 -- ---- identities of pairs
 four_sums : (a b c d : Cx) → plus (plus (plus a b) c) d ≡ plus (plus a c) (plus b d)
-four_sums a b c d = pair_of _ _ (law a.re b.re c.re d.re) (law a.im b.im c.im d.im)
+four_sums a b c d = same_parts _ _ (law a.re b.re c.re d.re) (law a.im b.im c.im d.im)
   where
     law : (a b c d : ℤ) → a +ℤ b +ℤ c +ℤ d ≡ (a +ℤ c) +ℤ (b +ℤ d)
     law = ring 4 (λ a b c d. a ⊕ b ⊕ c ⊕ d ≗ (a ⊕ c) ⊕ (b ⊕ d)) refl
 
 sum_of_differences : (a b c d : Cx) → plus (minus a b) (minus c d) ≡ minus (plus a c) (plus b d)
-sum_of_differences a b c d = pair_of _ _ (law a.re b.re c.re d.re) (law a.im b.im c.im d.im)
+sum_of_differences a b c d = same_parts _ _ (law a.re b.re c.re d.re) (law a.im b.im c.im d.im)
   where
     law : (a b c d : ℤ) → (a -ℤ b) +ℤ (c -ℤ d) ≡ (a +ℤ c) -ℤ (b +ℤ d)
     law = ring 4 (λ a b c d. (a ⊖ b) ⊕ (c ⊖ d) ≗ (a ⊕ c) ⊖ (b ⊕ d)) refl
 
 times_plus : (w a b : Cx) → times w (plus a b) ≡ plus (times w a) (times w b)
 unfolding times
-times_plus w a b = pair_of _ _ (re w.re w.im a.re a.im b.re b.im) (im w.re w.im a.re a.im b.re b.im)
+times_plus w a b = same_parts _ _ (re w.re w.im a.re a.im b.re b.im) (im w.re w.im a.re a.im b.re b.im)
   where
     re : (p q a b c d : ℤ) → p *ℤ (a +ℤ c) -ℤ q *ℤ (b +ℤ d) ≡ (p *ℤ a -ℤ q *ℤ b) +ℤ (p *ℤ c -ℤ q *ℤ d)
     re = ring 6 (λ p q a b c d. p ⊗ (a ⊕ c) ⊖ q ⊗ (b ⊕ d) ≗ (p ⊗ a ⊖ q ⊗ b) ⊕ (p ⊗ c ⊖ q ⊗ d)) refl
@@ -37,7 +34,7 @@ times_plus w a b = pair_of _ _ (re w.re w.im a.re a.im b.re b.im) (im w.re w.im 
 
 pub times_zero : (w : Cx) → times w zero_pair ≡ zero_pair
 unfolding times
-times_zero w = pair_of _ _ (re w.re w.im) (im w.re w.im)
+times_zero w = same_parts _ _ (re w.re w.im) (im w.re w.im)
   where
     re : (p q : ℤ) → p *ℤ pos 0 -ℤ q *ℤ pos 0 ≡ pos 0
     re = ring 2 (λ p q. p ⊗ number (pos 0) ⊖ q ⊗ number (pos 0) ≗ number (pos 0)) refl
@@ -46,13 +43,13 @@ times_zero w = pair_of _ _ (re w.re w.im) (im w.re w.im)
     im = ring 2 (λ p q. p ⊗ number (pos 0) ⊕ q ⊗ number (pos 0) ≗ number (pos 0)) refl
 
 multiple_plus : (c : ℤ) (a b : Cx) → multiple c (plus a b) ≡ plus (multiple c a) (multiple c b)
-multiple_plus c a b = pair_of _ _ (law c a.re b.re) (law c a.im b.im)
+multiple_plus c a b = same_parts _ _ (law c a.re b.re) (law c a.im b.im)
   where
     law : (c a b : ℤ) → c *ℤ (a +ℤ b) ≡ c *ℤ a +ℤ c *ℤ b
     law = ring 3 (λ c a b. c ⊗ (a ⊕ b) ≗ c ⊗ a ⊕ c ⊗ b) refl
 
 pub multiple_zero : (c : ℤ) → multiple c zero_pair ≡ zero_pair
-multiple_zero c = pair_of _ _ (law c) (law c)
+multiple_zero c = same_parts _ _ (law c) (law c)
   where
     law : (c : ℤ) → c *ℤ pos 0 ≡ pos 0
     law = ring 1 (λ c. c ⊗ number (pos 0) ≗ number (pos 0)) refl
@@ -60,6 +57,12 @@ multiple_zero c = pair_of _ _ (law c) (law c)
 -- ---- sums over places
 pub same_sums : (f g : ℕ → Cx) → ((m : ℕ) → f m ≡ g m) → (n : ℕ) → sum_below n f ≡ sum_below n g
 same_sums f g h n = ap (sum_below n) (λ i m. h m i)
+
+pub sum-local : (k : ℕ) (f g : ℕ → Cx) → ((m : ℕ) → m < k → f m ≡ g m) → sum_below k f ≡ sum_below k g
+unfolding sum_below
+sum-local zero f g same = refl
+sum-local (suc k) f g same =
+    ap (λ s. plus s (f k)) (sum-local k f g (λ m lt. same m (omega arith))) ∙ ap (plus (sum_below k g)) (same k (omega arith))
 
 pub sum_even_odd : (n : ℕ) (f : ℕ → Cx) → sum_below (2 * n) f ≡ plus (sum_below n (λ m. f (2 * m))) (sum_below n (λ m. f (2 * m + 1)))
 unfolding sum_below
@@ -98,7 +101,7 @@ plus_sums (suc n) f g = regrouped (sum_below n f) (f n) (sum_below n g) (g n) �
     law = ring 4 (λ a b c d. (a ⊕ b) ⊕ (c ⊕ d) ≗ (a ⊕ c) ⊕ (b ⊕ d)) refl
 
     regrouped : (a b c d : Cx) → plus (plus a b) (plus c d) ≡ plus (plus a c) (plus b d)
-    regrouped a b c d = pair_of _ _ (law a.re b.re c.re d.re) (law a.im b.im c.im d.im)
+    regrouped a b c d = same_parts _ _ (law a.re b.re c.re d.re) (law a.im b.im c.im d.im)
 
 -- a sum over the first places and those behind
 pub sum_halves : (n k : ℕ) (f : ℕ → Cx) → sum_below (n + k) f ≡ plus (sum_below n f) (sum_below k (λ m. f (m + n)))
@@ -109,7 +112,7 @@ sum_halves n zero f = let e : n + 0 ≡ n = omega arith in rw e (sym (plus_zero 
     law = ring 1 (λ a. a ⊕ number (pos 0) ≗ a) refl
 
     plus_zero : (a : Cx) → plus a zero_pair ≡ a
-    plus_zero a = pair_of _ _ (law a.re) (law a.im)
+    plus_zero a = same_parts _ _ (law a.re) (law a.im)
 sum_halves n (suc k) f =
     let e : n + suc k ≡ suc (n + k) = omega arith in
     let last : n + k ≡ k + n = omega arith in
@@ -119,4 +122,4 @@ sum_halves n (suc k) f =
     law = ring 3 (λ a b c. a ⊕ b ⊕ c ≗ a ⊕ (b ⊕ c)) refl
 
     assoc : (a b c : Cx) → plus (plus a b) c ≡ plus a (plus b c)
-    assoc a b c = pair_of _ _ (law a.re b.re c.re) (law a.im b.im c.im)
+    assoc a b c = same_parts _ _ (law a.re b.re c.re) (law a.im b.im c.im)
