@@ -4,7 +4,7 @@ use Rattle.rate_table.specs.declared.Rate.{Rate}
 use Rattle.rate_table.specs.Table.{row_of}
 use Rattle.rate_table.specs.Symbols.{symbol_count}
 use Rattle.conv_code.specs.Code.{code_of}
-use Rattle.puncture_map.specs.Kept.{kept_list}
+use Rattle.puncture_map.specs.Kept.{kept_code}
 use Rattle.interleave_two.specs.Place.{interleaved_symbols}
 use Rattle.data_field.specs.Field.{data_field}
 
@@ -18,7 +18,7 @@ code_at rate seed psdu = code_of (field_at rate seed psdu)
 
 -- its kept code
 abbrev pub kept_at : Rate → ℕ → List ℕ → List ℕ
-kept_at rate seed psdu = kept_list (row_of rate).code_rate (code_at rate seed psdu)
+kept_at rate seed psdu = kept_code (row_of rate).code_rate (field_at rate seed psdu)
 
 -- the bits of all its symbols after interleaving
 abbrev pub interleaved_at : Rate → ℕ → List ℕ → List ℕ

@@ -5,18 +5,19 @@ use Rattle.std.proofs.lemmas.List.{get_or-map}
 use Rattle.std.proofs.lemmas.List.Elements.{All-map}
 use Rattle.std.proofs.lemmas.Grind.{same_number_lists}
 use Rattle.bit_lists.specs.Bits.{IsBit, AreBits, exclusive_or}
+use Rattle.bit_lists.proofs.BitFacts.{IsBit-slice_index, on_two_bits}
 use Rattle.rate_table.specs.declared.CodeRate.{CodeRate}
 use Rattle.conv_code.specs.Code.{code_of}
 use Rattle.conv_code.specs.Linear.{exclusive_ors}
 use Rattle.conv_code.proofs.Coded.{Codes-code_of, AreBits-code_of}
 use Rattle.conv_code.proofs.Linear.{length-exclusive_ors, slice_index-exclusive_ors, code_of-exclusive_ors}
-use Rattle.puncture_map.specs.Kept.{kept_places, kept_count}
+use Rattle.puncture_map.specs.Kept.{kept_places, kept_count, kept_code}
 use Rattle.puncture_map.proofs.KeptBits.{AreBits-kept_bits}
 use Rattle.survivor_memory.specs.Nearest.{IsClosed}
-use Rattle.kept_weights.specs.Weights.{kept_code, kept_weight, distance_over, least_weight}
+use Rattle.kept_weights.specs.Weights.{kept_weight, distance_over, least_weight}
 use Rattle.kept_weights.proofs.Sums.{sum_below, sum_by-range, sum_by-places, sum_below-same}
 use Rattle.kept_weights.proofs.StepWeights.{length-kept_code}
-use Rattle.kept_weights.proofs.Heavy.{ZeroBelow, IsBit-at, closed_is_heavy}
+use Rattle.kept_weights.proofs.Heavy.{ZeroBelow, closed_is_heavy}
 
 -- a kept code has bits
 pub AreBits-kept_code : (rate : CodeRate) (u : List ℕ) → AreBits (kept_code rate u)
@@ -46,7 +47,7 @@ same_where_zero : (n : ℕ) (u w : List ℕ) → IsClosed n u → IsClosed n w �
 same_where_zero n u w cu cw zeros =
     let same : length u ≡ length w = omega (arith, cu.long, cw.long) in
     same_number_lists u w same
-    (λ k within. same_bits (slice_index u k) (slice_index w k) (IsBit-at u k cu.bits) (IsBit-at w k cw.bits)
+    (λ k within. same_bits (slice_index u k) (slice_index w k) (IsBit-slice_index u k cu.bits) (IsBit-slice_index w k cw.bits)
     (sym (slice_index-exclusive_ors u w same k) ∙ zeros k (omega (arith, cu.long))))
 
 -- a kept bit is the bit at its place of the code
@@ -72,12 +73,7 @@ kept_code-exclusive_ors rate n u w long_u long_w k within =
 
 -- their exclusive or is 1 where they differ
 one_where_other : (a b : ℕ) → IsBit a → IsBit b → ◌≡◌ {A = ℕ} (cond (exclusive_or a b == 1) 1 0) (cond (not (a == b)) 1 0)
-one_where_other zero zero p q = refl
-one_where_other zero (suc zero) p q = refl
-one_where_other (suc zero) zero p q = refl
-one_where_other (suc zero) (suc zero) p q = refl
-one_where_other (suc (suc a)) b p q = absurd (omega arith)
-one_where_other a (suc (suc b)) p q = absurd (omega arith)
+one_where_other = on_two_bits (λ a b. ◌≡◌ {A = ℕ} (cond (exclusive_or a b == 1) 1 0) (cond (not (a == b)) 1 0)) refl refl refl refl
 
 -- and its kept weight is their distance
 kept_weight-exclusive_ors : (rate : CodeRate) (n : ℕ) (u w : List ℕ) → length u ≡ n → length w ≡ n → kept_weight rate (exclusive_ors u w) ≡ distance_over (kept_count rate n) (kept_code rate u) (kept_code rate w)
@@ -87,7 +83,7 @@ kept_weight-exclusive_ors rate n u w long_u long_w =
     sum_by-places (λ bit. cond (bit == 1) 1 0) (kept_code rate x)
     ∙ ap (sum_below (λ k. cond (slice_index (kept_code rate x) k == 1) 1 0)) count
     ∙ sum_below-same (λ k. cond (slice_index (kept_code rate x) k == 1) 1 0) (λ k. cond (not (slice_index (kept_code rate u) k == slice_index (kept_code rate w) k)) 1 0) (kept_count rate n)
-    (λ k within. ap (λ bit. cond (bit == 1) 1 0) (kept_code-exclusive_ors rate n u w long_u long_w k within) ∙ one_where_other _ _ (IsBit-at (kept_code rate u) k (AreBits-kept_code rate u)) (IsBit-at (kept_code rate w) k (AreBits-kept_code rate w)))
+    (λ k within. ap (λ bit. cond (bit == 1) 1 0) (kept_code-exclusive_ors rate n u w long_u long_w k within) ∙ one_where_other _ _ (IsBit-slice_index (kept_code rate u) k (AreBits-kept_code rate u)) (IsBit-slice_index (kept_code rate w) k (AreBits-kept_code rate w)))
     ∙ sym (distance_over-by_places (kept_count rate n) (kept_code rate u) (kept_code rate w))
 
 -- two lists of one length that end in six zeros are the same, or their kept codes are at least so far apart

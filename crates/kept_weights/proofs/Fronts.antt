@@ -8,13 +8,13 @@ use Rattle.conv_code.specs.Code.{earlier, parity_a, parity_b, code_of}
 use Rattle.conv_code.proofs.Coded.{Codes-code_of}
 use Rattle.conv_code.proofs.Inputs.{earlier_before, earlier_inside}
 use Rattle.conv_code.proofs.Linear.{same_from_Codes}
-use Rattle.puncture_map.specs.Kept.{is_kept, kept_list, kept_count}
+use Rattle.puncture_map.specs.Kept.{is_kept, kept_list, kept_count, kept_code, rank}
 use Rattle.puncture_map.proofs.KeptBits.{kept_list-take}
+use Rattle.puncture_map.proofs.Ranks.{rank-below}
 use Rattle.survivor_memory.specs.declared.PairCosts.{PairCosts}
-use Rattle.kept_weights.specs.Weights.{kept_code, distance_over}
-use Rattle.kept_weights.specs.Decisions.{mark_cost, decision_cost, pair_of, pairs_of}
+use Rattle.kept_weights.specs.Weights.{distance_over}
+use Rattle.kept_weights.specs.Decisions.{mark_cost, decision_cost, costs_of_step, costs_of_steps}
 use Rattle.kept_weights.proofs.Sums.{cond_same, sum_below-same}
-use Rattle.kept_weights.proofs.Ranks.{rank, rank_more}
 use Rattle.kept_weights.proofs.Apart.{distance_over-by_places}
 
 -- the inputs before a place of the front are the list's
@@ -66,34 +66,18 @@ distance_over-take rate n u decisions within =
     ∙ sym (distance_over-by_places (kept_count rate n) (kept_code rate (take n u)) decisions)
 
 -- one pair more
-pub pairs_of-more : (rate : CodeRate) (full n : ℕ) (decisions : List ℕ) → pairs_of rate full decisions (n + 1) ≡ pairs_of rate full decisions n ++ pair_of rate full decisions n ∷ []
-pairs_of-more rate full n decisions = map-range_with_len_more (pair_of rate full decisions) 0 n n (omega arith)
+pub costs_of_steps-more : (rate : CodeRate) (full n : ℕ) (decisions : List ℕ) → costs_of_steps rate full decisions (n + 1) ≡ costs_of_steps rate full decisions n ++ costs_of_step rate full decisions n ∷ []
+costs_of_steps-more rate full n decisions = map-range_with_len_more (costs_of_step rate full decisions) 0 n n (omega arith)
 
--- ranks rise
-rank_rises : (rate : CodeRate) (place more : ℕ) → rank rate place ≤ rank rate (place + more)
-rank_rises rate place zero = let same : place + zero ≡ place = omega arith in rw same (omega arith)
-rank_rises rate place (suc more) =
-    let next : place + suc more ≡ place + more + 1 = omega arith in
-    rw next (omega (arith, rank_rises rate place more, rank_more rate (place + more)))
-
--- a kept place below so many steps has a rank below their count
-rank_below : (rate : CodeRate) (n place : ℕ) → place < 2 * n → is_kept rate place ≡ true → rank rate place < kept_count rate n
-rank_below rate n place within kept =
-    let whole : place + 1 + (2 * n - (place + 1)) ≡ 2 * n = omega arith in
-    let rises = rank_rises rate (place + 1) (2 * n - (place + 1)) in
-    let up_to = rw whole at rises in
-    let more : rank rate (place + 1) ≡ rank rate place + 1 = rank_more rate place ∙ ap (λ b. rank rate place + cond b 1 0) kept in
-    omega arith
-
--- so a mark that is below them is that of the first decisions
+-- a mark below so many steps is that of the first decisions
 mark_cost-take : (rate : CodeRate) (full n : ℕ) (decisions : List ℕ) (place bit : ℕ) → place < 2 * n → mark_cost rate full (take (kept_count rate n) decisions) place bit ≡ mark_cost rate full decisions place bit
 mark_cost-take rate full n decisions place bit within =
-    cond_same (is_kept rate place) _ _ (λ kept. ap (λ decision. decision_cost full decision bit) (get_or-take (kept_count rate n) decisions (rank rate place) 0 (rank_below rate n place within kept)))
+    cond_same (is_kept rate place) _ _ (λ kept. ap (λ decision. decision_cost full decision bit) (get_or-take (kept_count rate n) decisions (rank rate place) 0 (rank-below rate place n within kept)))
 
 -- and so is a pair
-pair_of-take : (rate : CodeRate) (full n : ℕ) (decisions : List ℕ) (i : ℕ) → i < n → pair_of rate full (take (kept_count rate n) decisions) i ≡ pair_of rate full decisions i
-unfolding pair_of
-pair_of-take rate full n decisions i within =
+costs_of_step-take : (rate : CodeRate) (full n : ℕ) (decisions : List ℕ) (i : ℕ) → i < n → costs_of_step rate full (take (kept_count rate n) decisions) i ≡ costs_of_step rate full decisions i
+unfolding costs_of_step
+costs_of_step-take rate full n decisions i within =
     let at : (place bit : ℕ) → place < 2 * n → mark_cost rate full (take (kept_count rate n) decisions) place bit ≡ mark_cost rate full decisions place bit = mark_cost-take rate full n decisions in
     let first = at (2 * i) 0 (omega arith) in
     let second = at (2 * i) 1 (omega arith) in
@@ -102,10 +86,10 @@ pair_of-take rate full n decisions i within =
     cc
 
 -- decisions behind the first ones play no part
-pub pairs_of-take : (rate : CodeRate) (full n : ℕ) (decisions : List ℕ) → pairs_of rate full (take (kept_count rate n) decisions) n ≡ pairs_of rate full decisions n
-pairs_of-take rate full n decisions =
+pub costs_of_steps-take : (rate : CodeRate) (full n : ℕ) (decisions : List ℕ) → costs_of_steps rate full (take (kept_count rate n) decisions) n ≡ costs_of_steps rate full decisions n
+costs_of_steps-take rate full n decisions =
     let front = take (kept_count rate n) decisions in
     let none : PairCosts = record { first_zero = 0; first_one = 0; second_zero = 0; second_one = 0 } in
-    fill_by_all (pair_of rate full decisions) (pairs_of rate full front n) n none
-    (length-map-range_with_len (pair_of rate full front) 0 n)
-    (λ k within. get_or-map-range_with_len (pair_of rate full front) 0 n k k none within (omega arith) ∙ pair_of-take rate full n decisions k within)
+    fill_by_all (costs_of_step rate full decisions) (costs_of_steps rate full front n) n none
+    (length-map-range_with_len (costs_of_step rate full front) 0 n)
+    (λ k within. get_or-map-range_with_len (costs_of_step rate full front) 0 n k k none within (omega arith) ∙ costs_of_step-take rate full n decisions k within)

@@ -3,11 +3,12 @@ use Rattle.std.proofs.Common.{◌≡◌, ℕ, zero, suc, ◌+◌, ◌-◌, ◌%�
 use Rattle.std.proofs.lemmas.Bool.{cases_lt, cases_eq}
 use Rattle.std.proofs.lemmas.List.{get_or_past}
 use Rattle.bit_lists.specs.Bits.{IsBit, AreBits}
+use Rattle.bit_lists.proofs.BitFacts.{IsBit-slice_index}
 use Rattle.rate_table.specs.declared.CodeRate.{CodeRate}
 use Rattle.rate_table.specs.declared.CodeRate.TheVariants.{Half, TwoThirds, ThreeQuarters}
 use Rattle.conv_code.specs.Code.{earlier}
 use Rattle.conv_code.specs.States.{state_before}
-use Rattle.conv_code.proofs.Inputs.{earlier_before, earlier_inside, IsBit-earlier, state_before-more}
+use Rattle.conv_code.proofs.Inputs.{earlier_before, earlier_inside, state_before-lt, state_before-more}
 use Rattle.puncture_map.specs.Kept.{period_of}
 use Rattle.survivor_memory.specs.Nearest.{IsClosed}
 use Rattle.kept_weights.specs.Weights.{kept_weight, least_weight}
@@ -31,13 +32,6 @@ state_zero u n zeros =
     ] in
     rw (at 1 (omega arith) (omega arith), at 2 (omega arith) (omega arith), at 3 (omega arith) (omega arith), at 4 (omega arith) (omega arith), at 5 (omega arith) (omega arith), at 6 (omega arith) (omega arith))
 
--- a state is below 64
-state_below : (u : List ℕ) (n : ℕ) → AreBits u → state_before u n < 64
-unfolding state_before
-state_below u n bits =
-    let at : (steps : ℕ) → IsBit (earlier u n steps) = λ steps. IsBit-earlier u n steps bits in
-    omega (arith, at 1, at 2, at 3, at 4, at 5, at 6)
-
 -- the phase of a place is below the period
 phase_below : (rate : CodeRate) (i : ℕ) → i % period_of rate < period_of rate
 phase_below Half i = omega arith
@@ -59,7 +53,7 @@ heavy_more : (rate : CodeRate) (u : List ℕ) (n : ℕ) → AreBits u → IsBit 
 heavy_more rate u n bits bit heavy =
     let next : suc n ≡ n + 1 = omega arith in
     let along = branch_weight_along rate u n bits in
-    let falls = (each_is_potential rate).branches (n % period_of rate) (state_before u n) (slice_index u n) (phase_below rate n) (state_below u n bits) bit in
+    let falls = (each_is_potential rate).branches (n % period_of rate) (state_before u n) (slice_index u n) (phase_below rate n) (state_before-lt u n bits) bit in
     let falls_there = rw (along, phase_more rate n, state_before-more u n bits, ← next) at falls in
     omega arith
 
@@ -73,11 +67,6 @@ heavy_first rate u n bits one start =
     let first_there = rw (along, phase_more rate n) at first in
     let there : potential_of rate (suc n % period_of rate) 1 ≡ potential_of rate (suc n % period_of rate) (state_before u (suc n)) = ap (potential_of rate (suc n % period_of rate)) after in
     omega arith
-
--- an entry of a list of bits is a bit, and so is what is read past its end
-pub IsBit-at : (u : List ℕ) (k : ℕ) → AreBits u → IsBit (slice_index u k)
-IsBit-at u k bits =
-    elim (cases_lt k (length u)) [ inl within ↦ bits k 0 within | inr past ↦ rw (get_or_past u k 0 past) (omega arith) ]
 
 -- one place more
 zero_more : (u : List ℕ) (n : ℕ) → ZeroBelow n u → slice_index u n ≡ 0 → ZeroBelow (suc n) u
@@ -95,11 +84,11 @@ zero_or_heavy rate u (suc n) bits =
       | inl zeros ↦ elim (cases_eq (slice_index u n) 0) [
         | inl here ↦ inl (zero_more u n zeros here)
         | inr other ↦
-            let bit = IsBit-at u n bits in
+            let bit = IsBit-slice_index u n bits in
             let one : slice_index u n ≡ 1 = one_of (slice_index u n) bit other in
             inr (heavy_first rate u n bits one (state_zero u n (λ place below _. zeros place below)))
       ]
-      | inr heavy ↦ inr (heavy_more rate u n bits (IsBit-at u n bits) heavy)
+      | inr heavy ↦ inr (heavy_more rate u n bits (IsBit-slice_index u n bits) heavy)
     ]
   where
     one_of : (a : ℕ) → IsBit a → (a ≡ 0 → ⊥) → a ≡ 1

@@ -4,7 +4,6 @@ pub mod Fronts
 pub mod Heavy
 pub mod Nearest
 pub mod Potential
-pub mod Ranks
 pub mod Scaled
 pub mod StepWeights
 pub mod Sums

@@ -3,17 +3,16 @@ use Rattle.std.proofs.Common.{◌≡◌, ℕ, zero, suc, ◌*◌, ◌<◌, ◌�
 use Rattle.std.proofs.Math.Nat.{le_of_mul-le-mul_left}
 use Rattle.std.proofs.Math.ListN.{get_or-map}
 use Rattle.bit_lists.specs.Bits.{IsBit, AreBits}
+use Rattle.bit_lists.proofs.BitFacts.{IsBit-slice_index, on_two_bits}
 use Rattle.rate_table.specs.declared.CodeRate.{CodeRate}
-use Rattle.puncture_map.specs.Kept.{kept_count}
+use Rattle.puncture_map.specs.Kept.{kept_count, kept_code}
 use Rattle.survivor_memory.specs.Costs.{cost}
 use Rattle.survivor_memory.specs.Nearest.{IsClosed, IsNearest}
-use Rattle.kept_weights.specs.Weights.{kept_code}
-use Rattle.kept_weights.specs.Decisions.{decision_cost, pairs_of, cost_of_decisions}
+use Rattle.kept_weights.specs.Decisions.{decision_cost, costs_of_steps, cost_of_decisions}
 use Rattle.kept_weights.proofs.Sums.{sum_below, sum_below-same}
-use Rattle.kept_weights.proofs.Heavy.{IsBit-at}
 use Rattle.kept_weights.proofs.Apart.{AreBits-kept_code}
 use Rattle.kept_weights.proofs.Costs.{cost-over_kept_code, cost_of_decisions-by_places}
-use Rattle.kept_weights.proofs.Nearest.{length-pairs_of}
+use Rattle.kept_weights.proofs.Nearest.{length-costs_of_steps}
 
 -- each decision so many times
 abbrev pub scaled : ℕ → List ℕ → List ℕ
@@ -27,12 +26,8 @@ scaled_at full decisions k =
 
 -- what such a decision costs
 scaled_cost : (full v b : ℕ) → IsBit v → IsBit b → decision_cost full (full * v) b ≡ full * decision_cost 1 v b
-scaled_cost full zero zero p q = refl
-scaled_cost full zero (suc zero) p q = omega arith
-scaled_cost full (suc zero) zero p q = refl
-scaled_cost full (suc zero) (suc zero) p q = omega arith
-scaled_cost full (suc (suc v)) b p q = absurd (omega arith)
-scaled_cost full v (suc (suc b)) p q = absurd (omega arith)
+scaled_cost full =
+    on_two_bits (λ v b. decision_cost full (full * v) b ≡ full * decision_cost 1 v b) (omega arith) (omega arith) (omega arith) (omega arith)
 
 -- a sum of multiples
 sum_below-times : (times : ℕ) (f : ℕ → ℕ) (n : ℕ) → sum_below (λ k. times * f k) n ≡ times * sum_below f n
@@ -44,12 +39,12 @@ cost_of_scaled : (full n : ℕ) (decisions bits : List ℕ) → AreBits decision
 cost_of_scaled full n decisions bits p q =
     let hard = λ (k : ℕ). decision_cost 1 (slice_index decisions k) (slice_index bits k) in
     cost_of_decisions-by_places full (scaled full decisions) n bits
-    ∙ sum_below-same _ (λ k. full * hard k) n (λ k within. ap (λ v. decision_cost full v (slice_index bits k)) (scaled_at full decisions k) ∙ scaled_cost full (slice_index decisions k) (slice_index bits k) (IsBit-at decisions k p) (IsBit-at bits k q))
+    ∙ sum_below-same _ (λ k. full * hard k) n (λ k within. ap (λ v. decision_cost full v (slice_index bits k)) (scaled_at full decisions k) ∙ scaled_cost full (slice_index decisions k) (slice_index bits k) (IsBit-slice_index decisions k p) (IsBit-slice_index bits k q))
     ∙ sum_below-times full hard n
     ∙ ap (λ s. full * s) (sym (cost_of_decisions-by_places 1 decisions n bits))
 
 -- the cost of a list against them
-pub cost-scaled : (rate : CodeRate) (full n : ℕ) (decisions u : List ℕ) → AreBits decisions → length u ≡ n → cost (pairs_of rate full (scaled full decisions) n) u ≡ full * cost (pairs_of rate 1 decisions n) u
+pub cost-scaled : (rate : CodeRate) (full n : ℕ) (decisions u : List ℕ) → AreBits decisions → length u ≡ n → cost (costs_of_steps rate full (scaled full decisions) n) u ≡ full * cost (costs_of_steps rate 1 decisions n) u
 cost-scaled rate full n decisions u bits long =
     cost-over_kept_code rate full n (scaled full decisions) u long
     ∙ cost_of_scaled full (kept_count rate n) decisions (kept_code rate u) bits (AreBits-kept_code rate u)
@@ -63,13 +58,13 @@ times_same full a b some same =
     omega arith
 
 -- so the nearest list is the same
-pub nearest-scaled : (rate : CodeRate) (full n least : ℕ) (decisions u : List ℕ) → AreBits decisions → 0 < full → IsNearest (pairs_of rate 1 decisions n) u least → IsNearest (pairs_of rate full (scaled full decisions) n) u (full * least)
+pub nearest-scaled : (rate : CodeRate) (full n least : ℕ) (decisions u : List ℕ) → AreBits decisions → 0 < full → IsNearest (costs_of_steps rate 1 decisions n) u least → IsNearest (costs_of_steps rate full (scaled full decisions) n) u (full * least)
 nearest-scaled rate full n least decisions u bits some nearest =
-    let count : length (pairs_of rate full (scaled full decisions) n) ≡ n = length-pairs_of rate full n (scaled full decisions) in
-    let count_hard : length (pairs_of rate 1 decisions n) ≡ n = length-pairs_of rate 1 n decisions in
-    let as_hard : (v : List ℕ) → IsClosed (length (pairs_of rate full (scaled full decisions) n)) v → IsClosed (length (pairs_of rate 1 decisions n)) v =
+    let count : length (costs_of_steps rate full (scaled full decisions) n) ≡ n = length-costs_of_steps rate full n (scaled full decisions) in
+    let count_hard : length (costs_of_steps rate 1 decisions n) ≡ n = length-costs_of_steps rate 1 n decisions in
+    let as_hard : (v : List ℕ) → IsClosed (length (costs_of_steps rate full (scaled full decisions) n)) v → IsClosed (length (costs_of_steps rate 1 decisions n)) v =
     λ v closed. (let there = rw count at closed in rw count_hard there) in
-    let times : (v : List ℕ) → IsClosed (length (pairs_of rate 1 decisions n)) v → cost (pairs_of rate full (scaled full decisions) n) v ≡ full * cost (pairs_of rate 1 decisions n) v =
+    let times : (v : List ℕ) → IsClosed (length (costs_of_steps rate 1 decisions n)) v → cost (costs_of_steps rate full (scaled full decisions) n) v ≡ full * cost (costs_of_steps rate 1 decisions n) v =
     λ v closed. cost-scaled rate full n decisions v bits (closed.long ∙ count_hard) in
     record {
       of_kind = (let there = rw count_hard at nearest.of_kind in rw count there);

@@ -1,5 +1,5 @@
 -- The kept weight of a list, step by step.
-use Rattle.std.proofs.Common.{◌≡◌, ℕ, zero, suc, ◌+◌, ◌*◌, ◌%◌, ◌==◌, cond, List, length, slice_index, refl, ap, sym, ◌∙◌, arith}
+use Rattle.std.proofs.Common.{◌≡◌, ℕ, zero, suc, ◌+◌, ◌*◌, ◌%◌, ◌==◌, Bool, true, false, cond, List, length, slice_index, refl, ap, sym, ◌∙◌, arith}
 use Rattle.std.proofs.lemmas.List.{length-map}
 use Rattle.bit_lists.specs.Bits.{IsBit, AreBits}
 use Rattle.rate_table.specs.declared.CodeRate.{CodeRate}
@@ -8,11 +8,12 @@ use Rattle.conv_code.specs.Code.{parity_a, parity_b, code_of}
 use Rattle.conv_code.specs.States.{state_before}
 use Rattle.conv_code.proofs.Coded.{Codes-code_of, IsBit-parity_a, IsBit-parity_b}
 use Rattle.conv_code.proofs.Inputs.{branch_a_along, branch_b_along}
-use Rattle.puncture_map.specs.Kept.{is_kept, kept_places, kept_count, period_of}
-use Rattle.kept_weights.specs.Weights.{kept_code, kept_weight}
+use Rattle.puncture_map.specs.Kept.{is_kept, kept_places, kept_count, period_of, kept_code, rank}
+use Rattle.puncture_map.proofs.Ranks.{rank-more}
+use Rattle.puncture_map.proofs.KeptBits.{kept_list-rank}
+use Rattle.kept_weights.specs.Weights.{kept_weight}
 use Rattle.kept_weights.specs.Potentials.{branch_weight}
 use Rattle.kept_weights.proofs.Sums.{cond_same, sum_below, sum_by-places, sum_below-same, sum_below-pairs}
-use Rattle.kept_weights.proofs.Ranks.{rank, sum_of_kept, kept_at_rank}
 
 -- the kept code has as many bits as places are kept
 pub length-kept_code : (rate : CodeRate) (u : List ℕ) → length (kept_code rate u) ≡ kept_count rate (length u)
@@ -24,6 +25,20 @@ length-kept_code rate u =
 abbrev pub at_kept : CodeRate → (ℕ → ℕ) → ℕ → ℕ
 at_kept rate f place = cond (is_kept rate place) (f place) 0
 
+-- the sum over the kept places below a number, by their ranks
+pub sum_of_kept : (rate : CodeRate) (f : ℕ → ℕ) (n : ℕ) → sum_below (λ place. cond (is_kept rate place) (f (rank rate place)) 0) n ≡ sum_below f (rank rate n)
+sum_of_kept rate f zero = refl
+sum_of_kept rate f (suc n) =
+    let before = sum_of_kept rate f n in
+    let one_more : suc n ≡ n + 1 = omega arith in
+    ap (λ s. s + cond (is_kept rate n) (f (rank rate n)) 0) before
+    ∙ one_place (is_kept rate n) (rank rate n)
+    ∙ ap (sum_below f) (sym (ap (rank rate) one_more ∙ rank-more rate n))
+  where
+    one_place : (b : Bool) (r : ℕ) → sum_below f r + cond b (f r) 0 ≡ sum_below f (r + cond b 1 0)
+    one_place true r = let one_on : r + 1 ≡ suc r = omega arith in rw one_on
+    one_place false r = let same : r + 0 ≡ r = omega arith in rw same (omega arith)
+
 -- a sum over the bits of a kept code, and one over the kept places of the code
 pub sum_over_code : (rate : CodeRate) (g : ℕ → ℕ → ℕ) (u : List ℕ) → sum_below (λ k. g k (slice_index (kept_code rate u) k)) (kept_count rate (length u)) ≡ sum_below (at_kept rate (λ place. g (rank rate place) (slice_index (code_of u) place))) (2 * length u)
 sum_over_code rate g u =
@@ -33,7 +48,7 @@ sum_over_code rate g u =
     (λ place. cond (is_kept rate place) (g (rank rate place) (slice_index (kept_code rate u) (rank rate place))) 0)
     (at_kept rate (λ place. g (rank rate place) (slice_index (code_of u) place)))
     (2 * length u)
-    (λ place below. cond_same (is_kept rate place) _ _ (λ kept. ap (g (rank rate place)) (kept_at_rank rate (code_of u) place (omega arith) kept)))
+    (λ place below. cond_same (is_kept rate place) _ _ (λ kept. ap (g (rank rate place)) (kept_list-rank rate (code_of u) place (omega arith) kept)))
 
 -- and one over the steps
 pub sum_over_steps : (rate : CodeRate) (g : ℕ → ℕ → ℕ) (u : List ℕ) → sum_below (λ k. g k (slice_index (kept_code rate u) k)) (kept_count rate (length u)) ≡ sum_below (λ i. at_kept rate (λ place. g (rank rate place) (parity_a u i)) (2 * i) + at_kept rate (λ place. g (rank rate place) (parity_b u i)) (2 * i + 1)) (length u)

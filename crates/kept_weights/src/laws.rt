@@ -4,11 +4,11 @@ ghost use Rattle.std.specs.Prelude.{◌≡◌, ◌≢◌, ◌≤◌, ◌<◌, �
 ghost use Rattle.bit_lists.specs.Bits.{AreBits};
 ghost use Rattle.rate_table.specs.declared.CodeRate.{CodeRate};
 ghost use Rattle.rate_table.specs.Table.{flip_bound_of};
-ghost use Rattle.puncture_map.specs.Kept.{kept_count};
+ghost use Rattle.puncture_map.specs.Kept.{kept_count, kept_code};
 ghost use Rattle.survivor_memory.specs.Costs.{cost};
 ghost use Rattle.survivor_memory.specs.Nearest.{IsClosed, IsNearest};
-ghost use Rattle.kept_weights.specs.Weights.{kept_code, kept_weight, distance_over, least_weight};
-ghost use Rattle.kept_weights.specs.Decisions.{pair_of, pairs_of, cost_of_decisions, repaired_cost};
+ghost use Rattle.kept_weights.specs.Weights.{kept_weight, distance_over, least_weight};
+ghost use Rattle.kept_weights.specs.Decisions.{costs_of_step, costs_of_steps, cost_of_decisions, repaired_cost};
 ghost use Rattle.kept_weights.specs.Potentials.{IsPotential, potential_of};
 
 /// Each code rate has a potential, by a table over phase and state (own).
@@ -33,10 +33,10 @@ pub fn least_distance()
 /// the number of them that differ from it (own).
 pub fn cost_over_kept_places()
     ensures sum { (rate : CodeRate) (full steps : ℕ) (decisions u : List ℕ) → length u ≡ steps
-        → cost (pairs_of rate full decisions steps) u
+        → cost (costs_of_steps rate full decisions steps) u
         ≡ cost_of_decisions full decisions (kept_count rate steps) (kept_code rate u) }
     ensures hard { (rate : CodeRate) (steps : ℕ) (decisions u : List ℕ) → length u ≡ steps → AreBits decisions
-        → cost (pairs_of rate 1 decisions steps) u
+        → cost (costs_of_steps rate 1 decisions steps) u
         ≡ distance_over (kept_count rate steps) (kept_code rate u) decisions }
 {}
 
@@ -44,12 +44,12 @@ pub fn cost_over_kept_places()
 /// list (own).
 pub fn cheap_list_is_nearest()
     ensures list { (rate : CodeRate) (full steps least : ℕ) (decisions u w : List ℕ) → IsClosed steps w
-        → 2 * cost (pairs_of rate full decisions steps) w < full * least_weight rate
-        → IsNearest (pairs_of rate full decisions steps) u least → u ≡ w }
+        → 2 * cost (costs_of_steps rate full decisions steps) w < full * least_weight rate
+        → IsNearest (costs_of_steps rate full decisions steps) u least → u ≡ w }
     ensures cost { (rate : CodeRate) (full steps least : ℕ) (decisions u w : List ℕ) → IsClosed steps w
-        → 2 * cost (pairs_of rate full decisions steps) w < full * least_weight rate
-        → IsNearest (pairs_of rate full decisions steps) u least
-        → least ≡ cost (pairs_of rate full decisions steps) w }
+        → 2 * cost (costs_of_steps rate full decisions steps) w < full * least_weight rate
+        → IsNearest (costs_of_steps rate full decisions steps) u least
+        → least ≡ cost (costs_of_steps rate full decisions steps) w }
 {}
 
 /// Flips are repaired: where at most 4 hard decisions at rate 1/2, or 2 at 2/3 and 3/4, differ from the kept code of a
@@ -58,11 +58,11 @@ pub fn flips_are_repaired()
     ensures list { (rate : CodeRate) (steps least : ℕ) (decisions u w : List ℕ) → AreBits decisions
         → IsClosed steps w
         → distance_over (kept_count rate steps) (kept_code rate w) decisions ≤ flip_bound_of rate
-        → IsNearest (pairs_of rate 1 decisions steps) u least → u ≡ w }
+        → IsNearest (costs_of_steps rate 1 decisions steps) u least → u ≡ w }
     ensures distance { (rate : CodeRate) (steps least : ℕ) (decisions u w : List ℕ) → AreBits decisions
         → IsClosed steps w
         → distance_over (kept_count rate steps) (kept_code rate w) decisions ≤ flip_bound_of rate
-        → IsNearest (pairs_of rate 1 decisions steps) u least
+        → IsNearest (costs_of_steps rate 1 decisions steps) u least
         → least ≡ distance_over (kept_count rate steps) (kept_code rate w) decisions }
 {}
 
@@ -70,10 +70,10 @@ pub fn flips_are_repaired()
 pub fn soft_decisions_are_repaired()
     ensures list { (rate : CodeRate) (steps least : ℕ) (decisions u w : List ℕ) → IsClosed steps w
         → cost_of_decisions 15 decisions (kept_count rate steps) (kept_code rate w) ≤ repaired_cost rate
-        → IsNearest (pairs_of rate 15 decisions steps) u least → u ≡ w }
+        → IsNearest (costs_of_steps rate 15 decisions steps) u least → u ≡ w }
     ensures cost { (rate : CodeRate) (steps least : ℕ) (decisions u w : List ℕ) → IsClosed steps w
         → cost_of_decisions 15 decisions (kept_count rate steps) (kept_code rate w) ≤ repaired_cost rate
-        → IsNearest (pairs_of rate 15 decisions steps) u least
+        → IsNearest (costs_of_steps rate 15 decisions steps) u least
         → least ≡ cost_of_decisions 15 decisions (kept_count rate steps) (kept_code rate w) }
 {}
 
@@ -88,21 +88,21 @@ pub fn kept_code_of_front()
 
 /// The pairs of marks of decisions are made one by one, and decisions behind the kept places play no part (own).
 pub fn pairs_of_decisions()
-    ensures none { (rate : CodeRate) (full : ℕ) (decisions : List ℕ) → pairs_of rate full decisions 0 ≡ [] }
+    ensures none { (rate : CodeRate) (full : ℕ) (decisions : List ℕ) → costs_of_steps rate full decisions 0 ≡ [] }
     ensures one_more { (rate : CodeRate) (full steps : ℕ) (decisions : List ℕ)
-        → pairs_of rate full decisions (steps + 1)
-        ≡ pairs_of rate full decisions steps ++ pair_of rate full decisions steps ∷ [] }
+        → costs_of_steps rate full decisions (steps + 1)
+        ≡ costs_of_steps rate full decisions steps ++ costs_of_step rate full decisions steps ∷ [] }
     ensures first_decisions { (rate : CodeRate) (full steps : ℕ) (decisions : List ℕ)
-        → pairs_of rate full (take (kept_count rate steps) decisions) steps ≡ pairs_of rate full decisions steps }
+        → costs_of_steps rate full (take (kept_count rate steps) decisions) steps ≡ costs_of_steps rate full decisions steps }
 {}
 
 /// Decisions that are all 0 or full cost so many times what the hard decisions 0 and 1 cost, and have the same nearest
 /// list (own).
 pub fn full_decisions_are_hard()
     ensures cost { (rate : CodeRate) (full steps : ℕ) (decisions u : List ℕ) → AreBits decisions → length u ≡ steps
-        → cost (pairs_of rate full (map (λ decision. full * decision) decisions) steps) u
-        ≡ full * cost (pairs_of rate 1 decisions steps) u }
+        → cost (costs_of_steps rate full (map (λ decision. full * decision) decisions) steps) u
+        ≡ full * cost (costs_of_steps rate 1 decisions steps) u }
     ensures nearest { (rate : CodeRate) (full steps least : ℕ) (decisions u : List ℕ) → AreBits decisions
-        → 0 < full → IsNearest (pairs_of rate 1 decisions steps) u least
-        → IsNearest (pairs_of rate full (map (λ decision. full * decision) decisions) steps) u (full * least) }
+        → 0 < full → IsNearest (costs_of_steps rate 1 decisions steps) u least
+        → IsNearest (costs_of_steps rate full (map (λ decision. full * decision) decisions) steps) u (full * least) }
 {}

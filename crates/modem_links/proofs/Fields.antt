@@ -9,12 +9,13 @@ use Rattle.std.specs.List.{range_with_len}
 use Rattle.bit_lists.proofs.EightBits.{length-bits_of_octets}
 use Rattle.data_field.specs.Stages.{field_at}
 use Rattle.data_field.specs.Field.{data_field, field_length, plain_field, with_tail}
-use Rattle.kept_weights.specs.Weights.{distance_over, kept_code}
+use Rattle.kept_weights.specs.Weights.{distance_over}
 use Rattle.kept_weights.proofs.Fronts.{distance_over-take}
 use Rattle.ofdm_scrambler.specs.Sequence.{IsSeed, scrambled, scrambler_bit, scrambler_sequence}
 use Rattle.ofdm_scrambler.proofs.LastSeven.{AreBits-scrambled, IsBit-scrambler_bit}
-use Rattle.puncture_map.specs.Kept.{kept_count}
-use Rattle.puncture_map.proofs.Counts.{kept_count-rises, kept_count-symbols}
+use Rattle.puncture_map.specs.Kept.{kept_count, kept_code}
+use Rattle.puncture_map.proofs.Counts.{kept_count-symbols}
+use Rattle.puncture_map.proofs.Ranks.{kept_count-rises}
 use Rattle.rate_table.specs.declared.Rate.{Rate}
 use Rattle.rate_table.specs.declared.Rate.TheVariants.{R6, R9, R12, R18, R24, R36, R48, R54}
 use Rattle.rate_table.specs.Symbols.{bits_through_tail, symbol_count, tail_place}

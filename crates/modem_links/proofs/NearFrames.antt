@@ -1,11 +1,10 @@
 -- The sent samples of a frame are near its plain waveform, and small.
 use Rattle.std.proofs.Common.{◌≡◌, ℕ, zero, suc, ◌+◌, ◌*◌, ◌≤◌, ◌++◌, List, length, slice_index, inl, inr, refl, subst, arith}
 use Rattle.std.specs.List.{range_with_len}
-use Rattle.std.proofs.lemmas.Bool.{cases_lt}
-use Rattle.std.proofs.lemmas.List.{get_or_past}
 use Rattle.std.proofs.lemmas.List.Elements.{All-drop, All-map, All-take}
 use Rattle.std.proofs.lemmas.List.FromFn.{length-map-range_with_len}
 use Rattle.bit_lists.specs.Bits.{AreBits, IsBit}
+use Rattle.bit_lists.proofs.BitFacts.{IsBit-slice_index}
 use Rattle.conv_code.proofs.Coded.{AreBits-code_of}
 use Rattle.fixed_complex.specs.declared.Cx.{Cx}
 use Rattle.fixed_complex.specs.declared.Sample.{Sample}
@@ -49,12 +48,8 @@ SmallBehind = (bound : ℕ) (front back : List Sample) → SamplesWithin bound f
 groups : (rate : Rate) → 48 * bits_of_modulation (row_of rate).modulation ≤ (row_of rate).coded_bits
 groups rate = omega (arith, coded_bits_by_modulation rate)
 
-IsBit-slice_index : (bits : List ℕ) → AreBits bits → (k : ℕ) → IsBit (slice_index bits k)
-IsBit-slice_index bits are k =
-    elim (cases_lt k (length bits)) [ inl below ↦ are k 0 below | inr past ↦ (let zero_there = get_or_past bits k 0 past in omega arith) ]
-
 AreBits-interleaved : (rate : Rate) (bits : List ℕ) → AreBits bits → AreBits (interleaved rate bits)
-AreBits-interleaved rate bits are = All-map IsBit _ (range_with_len 0 (row_of rate).coded_bits) (λ k d _. IsBit-slice_index bits are _)
+AreBits-interleaved rate bits are = All-map IsBit _ (range_with_len 0 (row_of rate).coded_bits) (λ k d _. IsBit-slice_index bits _ are)
 
 -- the points of coded bits are small
 small_code : SmallPoints → (rate : Rate) (bits : List ℕ) → AreBits bits → PairsWithin 700 (points_of_code rate bits)

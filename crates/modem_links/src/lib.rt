@@ -77,7 +77,7 @@ pub fn decode_field(
     let bits_through_tail = 22 + 8 * usize::from(octets);
     let mut trellis = Trellis::open(alloc, bits_through_tail)?;
     let mut bits = vec![in alloc; 0u8; bits_through_tail]?;
-    marks::hold(
+    marks::feed(
         &mut trellis,
         rate.code_rate(),
         decisions,

@@ -1,7 +1,7 @@
 //! The marks of decisions: those of kept places, in order, and absent ones.
 ghost use Rattle.std.specs.Prelude.{◌≡◌, ℕ, ◌+◌, ◌*◌, ◌<◌, ◌≤◌, [], true, length};
 ghost use Rattle.modem_ports.specs.Counts.{raised_by};
-ghost use Rattle.puncture_map.specs.Kept.{is_kept, kept_count, kept_places};
+ghost use Rattle.puncture_map.specs.Kept.{is_kept, kept_count, rank};
 ghost use Rattle.viterbi_lanes.specs.Decisions.{mark_at, marks_at, marks_of};
 ghost use Rattle.viterbi_lanes.specs.Marks.{StandsFor};
 
@@ -10,8 +10,8 @@ use puncture_map::{kept, kept_before};
 use rate_table::CodeRate;
 use viterbi_lanes::{Mark, Trellis};
 
-/// Has an empty trellis hold the marks of so many steps.
-pub fn hold(
+/// Feeds an empty trellis with the marks of so many steps.
+pub fn feed(
     trellis: &mut Trellis,
     rate: CodeRate,
     decisions: &[u8],
@@ -49,7 +49,7 @@ fn pair(rate: CodeRate, decisions: &[u8], step: usize) -> (Mark, Mark)
 
 // The mark at a place that has so many kept places before it.
 fn mark(rate: CodeRate, decisions: &[u8], place: usize, next: usize) -> Mark
-    requires next { next ≡ length (kept_places rate place) }
+    requires next { next ≡ rank rate place }
     requires decisions { is_kept rate place ≡ true → next < length decisions.now }
     ensures { result ≡ mark_at rate decisions.now place }
 {

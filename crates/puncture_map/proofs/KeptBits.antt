@@ -1,14 +1,14 @@
 -- The kept bits of a code, place by place.
-use Rattle.std.proofs.Common.{inl, inr, ◌≡◌, ℕ, ◌+◌, ◌-◌, ◌<◌, ◌≤◌, zero, suc, true, false, cond, List, [], ◌∷◌, ◌++◌, length, map, take, slice_index, get_or, refl, sym, ap, ◌∙◌, arith}
+use Rattle.std.proofs.Common.{◌≡◌, ℕ, ◌+◌, ◌-◌, ◌<◌, ◌≤◌, zero, suc, true, false, cond, List, [], ◌∷◌, ◌++◌, length, map, take, slice_index, get_or, refl, sym, ap, ◌∙◌, arith}
 use Rattle.std.specs.List.{All, range_with_len}
-use Rattle.std.proofs.lemmas.Bool.{cases_lt}
-use Rattle.std.proofs.lemmas.List.{append-nil, append_assoc, map-append, length-map, take_at, get_or_past, get_or-take, length-take-le}
+use Rattle.std.proofs.lemmas.List.{append-nil, append_assoc, map-append, length-map, take_at, get_or-take, get_or_push, length-take-le}
 use Rattle.std.proofs.lemmas.List.Elements.{All-map, All-filter, All-head, All-tail}
 use Rattle.std.proofs.lemmas.List.FromFn.{length-range_with_len, get_or-range_with_len}
 use Rattle.bit_lists.specs.Bits.{IsBit, AreBits}
+use Rattle.bit_lists.proofs.BitFacts.{IsBit-slice_index}
 use Rattle.rate_table.specs.declared.CodeRate.{CodeRate}
-use Rattle.puncture_map.specs.Kept.{is_kept, kept_places, kept_list}
-use Rattle.puncture_map.proofs.Counts.{kept_places-more}
+use Rattle.puncture_map.specs.Kept.{is_kept, kept_places, kept_list, rank}
+use Rattle.puncture_map.proofs.Ranks.{kept_places-more, rank-more}
 
 -- the bits at the kept places below a number
 abbrev pub kept_bits : CodeRate → List ℕ → ℕ → List ℕ
@@ -25,14 +25,10 @@ pub kept_bits-dropped : (rate : CodeRate) (code : List ℕ) (n : ℕ) → is_kep
 kept_bits-dropped rate code n k =
     kept_bits-append rate code n [] (kept_places-more rate n ∙ ap (λ b. kept_places rate n ++ cond b (n ∷ []) []) k) ∙ append-nil (kept_bits rate code n)
 
--- a place past the end reads as 0
-IsBit-slice_index : (code : List ℕ) → AreBits code → (k : ℕ) → IsBit (slice_index code k)
-IsBit-slice_index code bits k =
-    elim (cases_lt k (length code)) [ inl below ↦ bits k 0 below | inr past ↦ (let zero_there = get_or_past code k 0 past in omega arith) ]
-
+-- they are bits where the code has bits alone
 pub AreBits-kept_bits : (rate : CodeRate) (code : List ℕ) (n : ℕ) → AreBits code → AreBits (kept_bits rate code n)
 AreBits-kept_bits rate code n bits =
-    All-map IsBit (slice_index code) (kept_places rate n) (λ k d _. IsBit-slice_index code bits (get_or (kept_places rate n) k d))
+    All-map IsBit (slice_index code) (kept_places rate n) (λ k d _. IsBit-slice_index code (get_or (kept_places rate n) k d) bits)
 
 -- the places kept below a number are the first of those kept below a larger one
 kept_places-add : (rate : CodeRate) (a d : ℕ) → (rest : List ℕ) × (kept_places rate (a + d) ≡ kept_places rate a ++ rest)
@@ -81,3 +77,16 @@ kept_list-take rate code n within =
     ∙ take_at front (map (slice_index code) all.0) (length (kept_places rate n)) (length-map (kept_places rate n) (slice_index code))
     ∙ sym (kept_bits-take rate code n)
     ∙ sym (ap (kept_bits rate (take n code)) (length-take-le n code within))
+
+-- the kept bit with a kept place's rank is the bit at the place
+pub kept_list-rank : (rate : CodeRate) (code : List ℕ) (n : ℕ) → n < length code → is_kept rate n ≡ true → slice_index (kept_list rate code) (rank rate n) ≡ slice_index code n
+kept_list-rank rate code n within kept =
+    let front = take (n + 1) code in
+    let front_long : length front ≡ n + 1 = length-take-le (n + 1) code (omega arith) in
+    let more : rank rate (n + 1) ≡ rank rate n + 1 = rank-more rate n ∙ ap (λ b. rank rate n + cond b 1 0) kept in
+    let bits : kept_list rate front ≡ kept_bits rate front n ++ slice_index front n ∷ [] = ap (kept_bits rate front) front_long ∙ kept_bits-kept rate front n kept in
+    let split = kept_list-take rate code (n + 1) (omega arith) ∙ bits in
+    sym (get_or-take (rank rate (n + 1)) (kept_list rate code) (rank rate n) 0 (omega arith))
+    ∙ ap (λ xs. get_or xs (rank rate n) 0) split
+    ∙ get_or_push (kept_bits rate front n) (slice_index front n) 0 (rank rate n) (length-map (kept_places rate n) (slice_index front))
+    ∙ get_or-take (n + 1) code n 0 (omega arith)

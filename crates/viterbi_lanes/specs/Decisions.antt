@@ -1,22 +1,22 @@
--- The marks of hard decisions (own), over the kept places of the code (IEEE Std 802.11-2012, 18.3.5.6): these carry the
--- decisions in order, and the marks of all other places are absent.
-use Rattle.std.specs.Prelude.{ℕ, ◌+◌, ◌*◌, ◌==◌, ◌≤◌, List, length, map, slice_index, if◌then◌else◌}
+-- The marks of hard decisions (own), over the kept places of the code (IEEE Std 802.11-2012,
+-- 18.3.5.6): these carry the decisions in order, and the marks of all other places are absent.
+use Rattle.std.specs.Prelude.{ℕ, ◌+◌, ◌*◌, ◌==◌, ◌≤◌, List, map, slice_index, if◌then◌else◌}
 use Rattle.std.specs.List.{range_with_len}
 use Rattle.bit_lists.specs.Bits.{AreBits}
 use Rattle.rate_table.specs.declared.CodeRate.{CodeRate}
 use Rattle.rate_table.specs.Table.{flip_bound_of}
-use Rattle.puncture_map.specs.Kept.{is_kept, kept_count, kept_places}
+use Rattle.puncture_map.specs.Kept.{is_kept, kept_count, kept_code, rank}
 use Rattle.survivor_memory.specs.Nearest.{IsClosed}
-use Rattle.kept_weights.specs.Weights.{distance_over, kept_code}
+use Rattle.kept_weights.specs.Weights.{distance_over}
 use Rattle.viterbi_lanes.specs.declared.Mark.{Mark}
 use Rattle.viterbi_lanes.specs.declared.Mark.TheVariants.{Zero, One, Absent}
 
--- the mark at a place of the code: a kept place has the decision before which as many decisions stand as kept places before
--- the place; behind their end decisions are read as 0, and whoever cites this has enough of them
+-- the mark at a place of the code: a kept place has the decision of its rank; behind their end
+-- decisions are read as 0, and whoever cites this has enough of them
 abbrev pub mark_at : CodeRate → List ℕ → ℕ → Mark
 mark_at rate decisions place =
     if is_kept rate place
-    then (if slice_index decisions (length (kept_places rate place)) == 0 then Zero else One)
+    then (if slice_index decisions (rank rate place) == 0 then Zero else One)
     else Absent
 
 -- the pair of marks of a step, for A and for B
@@ -31,7 +31,8 @@ marks_of rate decisions steps = map (marks_at rate decisions) (range_with_len 0 
 abbrev pub changes : CodeRate → ℕ → List ℕ → List ℕ → ℕ
 changes rate steps u decisions = distance_over (kept_count rate steps) (kept_code rate u) decisions
 
--- decisions are the kept code of a list of so many bits that ends in six zeros, but for the few changes that are repaired
+-- decisions are the kept code of a list of so many bits that ends in six zeros, but for the few
+-- changes that are repaired
 pub record AreNearlyKeptCode (rate : CodeRate) (steps : ℕ) (u decisions : List ℕ) : Type 0 where
   pub bits : AreBits decisions
   pub closed : IsClosed steps u

@@ -1,19 +1,20 @@
 //! What holds of distances, of nearest lists and of the marks of decisions. The functions do nothing: what each ensures
 //! is the law.
-ghost use Rattle.std.specs.Prelude.{◌≡◌, ℕ, ◌+◌, ◌≤◌, List, [], ◌∷◌, ◌++◌, length, map, slice_index, take};
+ghost use Rattle.std.specs.Prelude.{◌≡◌, ℕ, ◌+◌, ◌≤◌, List, [], ◌∷◌, ◌++◌, length, map, take};
 ghost use Rattle.bit_lists.specs.Bits.{AreBits};
 ghost use Rattle.rate_table.specs.declared.CodeRate.{CodeRate};
 ghost use Rattle.puncture_map.specs.Kept.{kept_count};
 ghost use Rattle.survivor_memory.specs.Costs.{cost};
-ghost use Rattle.survivor_memory.specs.Nearest.{IsClosed, IsNearest};
-ghost use Rattle.kept_weights.specs.Decisions.{pairs_of};
-ghost use Rattle.kept_weights.specs.Potentials.{IsPotential, potential_of};
-ghost use Rattle.kept_weights.specs.Weights.{kept_weight, least_weight};
+ghost use Rattle.survivor_memory.specs.Nearest.{IsNearest};
+ghost use Rattle.kept_weights.specs.Decisions.{costs_of_steps};
 ghost use Rattle.viterbi_lanes.specs.declared.Mark.{Mark};
 ghost use Rattle.viterbi_lanes.specs.Decisions.{AreNearlyKeptCode, changes, marks_at, marks_of};
 ghost use Rattle.viterbi_lanes.specs.Marks.{IsNearestTo, costs_of, distance};
 
-/// The distance of a list of bits to as many pairs of marks is its cost, and the nearest list is the nearest by cost (own).
+pub use kept_weights::laws::{least_kept_weight, potentials};
+
+/// The distance of a list of bits to as many pairs of marks is its cost, and the nearest list is the nearest by cost
+/// (own).
 pub fn distance_is_cost()
     ensures distance { (marks : List (Mark × Mark)) (u : List ℕ) → length u ≡ length marks
         → distance marks u ≡ cost (map costs_of marks) u }
@@ -44,7 +45,7 @@ pub fn marks_of_decisions()
     ensures first_decisions { (rate : CodeRate) (decisions : List ℕ) (steps : ℕ)
         → marks_of rate (take (kept_count rate steps) decisions) steps ≡ marks_of rate decisions steps }
     ensures costs { (rate : CodeRate) (decisions : List ℕ) (steps : ℕ) → AreBits decisions
-        → map costs_of (marks_of rate decisions steps) ≡ pairs_of rate 1 decisions steps }
+        → map costs_of (marks_of rate decisions steps) ≡ costs_of_steps rate 1 decisions steps }
     ensures distance { (rate : CodeRate) (u decisions : List ℕ) (steps : ℕ) → AreBits decisions → length u ≡ steps
         → distance (marks_of rate decisions steps) u ≡ changes rate steps u decisions }
 {}
@@ -57,21 +58,4 @@ pub fn few_changes_are_repaired()
         → IsNearestTo (marks_of rate decisions steps) u (changes rate steps u decisions) }
 {
     survivor_memory::laws::some_nearest();
-}
-
-/// Each code rate has a potential: a number for each phase and state, of which over a branch one falls by at most the
-/// branch's kept weight (own).
-pub fn potentials()
-    ensures { (rate : CodeRate) → IsPotential rate (potential_of rate) }
-{
-    kept_weights::laws::potentials();
-}
-
-/// A list that ends in six zeros and has a 1 has at least 10 kept ones in its code at the rate 1/2, 6 at 2/3 and 5 at 3/4
-/// (own).
-pub fn least_kept_weight()
-    ensures { (rate : CodeRate) (steps : ℕ) (u : List ℕ) → IsClosed steps u
-        → (place : ℕ) → slice_index u place ≡ 1 → least_weight rate ≤ kept_weight rate u }
-{
-    kept_weights::laws::least_kept_weight();
 }

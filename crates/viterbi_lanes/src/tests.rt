@@ -182,3 +182,18 @@ fn nearest_lists(rt: HostRuntime) -> Result<(), Fail> {
     assert_eq!(rt; trellis.room(), 12);
     Ok(())
 }
+
+// Six absent pairs in a trellis with room for just these: the only list that ends in six zeros has six zeros.
+#[test]
+fn six_absent_pairs(rt: HostRuntime) -> Result<(), Fail> {
+    let mut steps = Steps::new();
+    let mut trellis = Trellis::open(rt.alloc(), 6)?;
+    let marks = [(Mark::Absent, Mark::Absent); 6];
+    let mut out = [2; 6];
+    assert_eq!(rt; nearest(&mut trellis, &marks, &mut steps, &mut out), 0);
+    assert_eq!(rt; out, [0; 6]);
+    assert_eq!(rt; steps.count(), 6);
+    assert_eq!(rt; trellis.held(), 0);
+    assert_eq!(rt; trellis.room(), 6);
+    Ok(())
+}

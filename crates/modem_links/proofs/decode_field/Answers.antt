@@ -7,16 +7,16 @@ use Rattle.viterbi_lanes.specs.Marks.{StandsFor}
 use Rattle.modem_links.proofs.Fields.{enough_decisions, field_front, flips_are_changes, front_names, nearly_front, undone_psdu}
 use Rattle.modem_links.proofs.decode_field.Goals as goal
 
-pub hold-requires-clause-decisions : goal.hold-requires-clause-decisions
-hold-requires-clause-decisions c =
+pub feed-requires-clause-decisions : goal.feed-requires-clause-decisions
+feed-requires-clause-decisions c =
     let steps : 22 + 8 * c.from.result ≡ bits_through_tail c.args.octets = omega (arith, c.from.ensures) in
     rw (c.code_rate.ensures, steps) (omega (arith, c.requires.whole, enough_decisions c.args.rate c.args.octets))
 
 -- what the trellis stands for before its end
-stood : (c : goal.After-drop-trellis-inside-2) → StandsFor c.hold.new.trellis (marks_of (row_of c.args.rate).code_rate c.args.decisions.now (bits_through_tail c.args.octets))
+stood : (c : goal.After-drop-trellis-inside-2) → StandsFor c.feed.new.trellis (marks_of (row_of c.args.rate).code_rate c.args.decisions.now (bits_through_tail c.args.octets))
 stood c =
     let steps : 22 + 8 * c.from.result ≡ bits_through_tail c.args.octets = omega (arith, c.from.ensures) in
-    rw (c.code_rate.ensures, steps) at c.hold.ensures.stands
+    rw (c.code_rate.ensures, steps) at c.feed.ensures.stands
 
 -- the bits that are read are those that the trellis wrote
 read_bits : (c : goal.After-drop-trellis-inside-2) → c.deref_mut-2.result.now ≡ c.finish-distance.new.out

@@ -1,9 +1,9 @@
 use Rattle.std.proofs.Common.{◌+◌, ◌≡◌, arith, inl, inr, sym, ap, ◌++◌, ◌∷◌, [], ◌∙◌}
 use Rattle.std.proofs.lemmas.Bool.{cases_lt}
 use Rattle.std.proofs.lemmas.List.FromFn.{map-range_with_len_more}
-use Rattle.puncture_map.proofs.Counts.{kept_count-rises}
+use Rattle.puncture_map.proofs.Ranks.{kept_count-rises}
 use Rattle.viterbi_lanes.specs.Decisions.{marks_at, marks_of}
-use Rattle.modem_links.proofs.marks.hold.Goals as goal
+use Rattle.modem_links.proofs.marks.feed.Goals as goal
 
 pub pair-a-requires-clause-decisions : goal.pair-a-requires-clause-decisions
 pair-a-requires-clause-decisions c =

@@ -2,7 +2,7 @@ use Rattle.std.proofs.Common.{◌≡◌, ◌<◌, length}
 use Rattle.modem_ports.specs.Counts.{raised_by}
 use Rattle.viterbi_lanes.specs.Decisions.{marks_of}
 use Rattle.viterbi_lanes.specs.Marks.{StandsFor}
-use Rattle.modem_links.proofs.marks.hold.Given as goal
+use Rattle.modem_links.proofs.marks.feed.Given as goal
 
 abbrev pub invariant-loop-step : goal.invariant-loop-step
 invariant-loop-step l = record {
