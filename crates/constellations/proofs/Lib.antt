@@ -1,4 +1,3 @@
-pub mod Tables
 pub mod BitCases
 pub mod Gray
 pub mod Counting

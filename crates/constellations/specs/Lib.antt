@@ -1,4 +1,3 @@
 pub mod Axes
 pub mod Points
 pub mod Decisions
-pub mod Carriers

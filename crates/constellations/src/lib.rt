@@ -1,17 +1,17 @@
-//! The points of the four modulations, the decisions back to bits, and where data and bins stand
-//! (IEEE Std 802.11-2012, 18.3.5.8 and 18.3.5.10). No call takes memory.
+//! The points of the four modulations, and the decisions back to bits (IEEE Std 802.11-2012, 18.3.5.8). No call takes
+//! memory.
 #![tactic(auto)]
 
 ghost use Rattle.std.specs.Prelude.{◌≡◌, ℕ, ◌+◌, ◌-◌, ◌*◌, ◌^◌, ◌<◌, ◌≤◌, IsTrue, length, slice_index, ℤ, pos, neg_ℤ, ◌≤ℤ◌, unsigned_abs};
 ghost use Rattle.bit_lists.specs.Bits.{AreBits};
 ghost use Rattle.fixed_complex.specs.Pairs.{IsWithin};
 ghost use Rattle.constellations.specs.Axes.{amplitude_of, axis_of, axis_width, gray_bit, level_bits, place_of};
-ghost use Rattle.constellations.specs.Carriers.{bin_of, carries_data, data_carrier_of};
 ghost use Rattle.constellations.specs.Decisions.{decided, lies_above, thresholds, thresholds_below};
 ghost use Rattle.constellations.specs.Points.{point_of};
 
 pub mod laws;
 
+pub use carrier_bins::{bin, data_carrier};
 use fixed_complex::Cx;
 use rate_table::Modulation;
 
@@ -75,32 +75,6 @@ pub fn decide(modulation: Modulation, z: Cx, m: i64) -> [u8; 6]
             gray_bit(q, 0),
         ],
     }
-}
-
-/// The carrier, from -26 to 26, of data number k, from 0 to 47 (IEEE Std 802.11-2012, 18.3.5.10).
-pub fn data_carrier(k: usize) -> i32
-    requires { k < 48 }
-    ensures carrier { result ≡ data_carrier_of k }
-{
-    let k = k as i32;
-    match k {
-        0..=4 => k - 26,
-        5..=17 => k - 25,
-        18..=23 => k - 24,
-        24..=29 => k - 23,
-        30..=42 => k - 22,
-        _ => k - 21,
-    }
-}
-
-/// The bin of a carrier from -32 to 31: the carrier modulo 64 (own).
-pub fn bin(carrier: i32) -> usize
-    requires least { neg_ℤ (pos 32) ≤ℤ carrier }
-    requires most { carrier ≤ℤ pos 31 }
-    ensures bin { result ≡ bin_of carrier }
-    ensures within { result < 64 }
-{
-    carrier.rem_euclid(64) as usize
 }
 
 // An axis of a point: the level of its bits, in the modulation's amplitude.
@@ -217,14 +191,5 @@ mod tests {
         assert!(rt; decide(Modulation::Qam64, beside, 1296) == [0, 0, 0, 1, 0, 0]);
         let nothing = Cx { re: 0, im: 0 };
         assert!(rt; decide(Modulation::Bpsk, nothing, 0) == [1, 0, 0, 0, 0, 0]);
-    }
-
-    #[test]
-    fn carriers_beside_the_pilots(rt: HostRuntime) {
-        for (k, carrier) in [(0, -26), (5, -20), (23, -1), (24, 1), (42, 20), (47, 26)] {
-            assert!(rt; data_carrier(k) == carrier);
-        }
-        assert!(rt; bin(-26) == 38);
-        assert!(rt; bin(26) == 26);
     }
 }

@@ -3,8 +3,8 @@ use Rattle.std.proofs.Common.{◌≡◌, ◌≢◌, ℕ, ◌+◌, ◌<◌, Bool,
 use Rattle.std.proofs.lemmas.Bool.{cases_lt, eqb-true, lt-ltb, le-ltb, agree_below_at}
 use Rattle.fixed_complex.specs.declared.Cx.{Cx}
 use Rattle.fixed_complex.specs.Pairs.{zero_pair}
-use Rattle.constellations.specs.Carriers.{bin_of, data_carrier_of}
-use Rattle.training_fields.specs.Bins.{carrier_in}
+use Rattle.carrier_bins.specs.Carriers.{bin_of, data_carrier_of}
+use Rattle.carrier_bins.specs.Bins.{carrier_in}
 use Rattle.symbol_builder.specs.Carriers.{data_number_in, pilot_at, symbol_bin}
 
 -- each data number is that of its carrier's bin

@@ -4,7 +4,7 @@ use Rattle.std.proofs.lemmas.Bool.{leb-true, agree_below_at}
 use Rattle.integer_laws.proofs.Order.{unsigned_abs-product}
 use Rattle.integer_laws.proofs.Sizes.{size_of_parts}
 use Rattle.fixed_complex.specs.Pairs.{IsOfSize, IsWithin}
-use Rattle.training_fields.specs.Bins.{carrier_in}
+use Rattle.carrier_bins.specs.Bins.{carrier_in}
 use Rattle.training_fields.specs.Signs.{sign_at}
 use Rattle.symbol_builder.specs.Carriers.{pilot_at, pilot_sign_of, polarity_of}
 

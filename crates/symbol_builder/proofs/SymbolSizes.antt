@@ -6,8 +6,8 @@ use Rattle.integer_laws.proofs.Sizes.{size_of_parts}
 use Rattle.fixed_complex.specs.declared.Cx.{Cx}
 use Rattle.fixed_complex.specs.Pairs.{IsOfSize, IsWithin}
 use Rattle.fixed_complex.specs.PairLists.{PairsWithin, entry}
-use Rattle.constellations.specs.Carriers.{bin_of, data_carrier_of}
-use Rattle.training_fields.specs.Bins.{carrier_in}
+use Rattle.carrier_bins.specs.Carriers.{bin_of, data_carrier_of}
+use Rattle.carrier_bins.specs.Bins.{carrier_in}
 use Rattle.training_fields.specs.Bounds.{FitASample}
 use Rattle.training_fields.specs.Signs.{sign_at}
 use Rattle.fixed_complex.proofs.PairLists.{entry-map, everywhere_within}

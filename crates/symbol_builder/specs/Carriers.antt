@@ -4,9 +4,9 @@ use Rattle.std.specs.List.{position_or_len, range_with_len}
 use Rattle.fixed_complex.specs.declared.Cx.{Cx}
 use Rattle.fixed_complex.specs.declared.Sample.{Sample}
 use Rattle.fixed_complex.specs.Pairs.{zero_pair}
-use Rattle.constellations.specs.Carriers.{bin_of, data_carrier_of}
+use Rattle.carrier_bins.specs.Carriers.{bin_of, data_carrier_of}
 use Rattle.ofdm_scrambler.specs.Sequence.{scrambler_bit}
-use Rattle.training_fields.specs.Bins.{carrier_in}
+use Rattle.carrier_bins.specs.Bins.{carrier_in}
 use Rattle.training_fields.specs.Bodies.{plain_body, sent_body}
 use Rattle.training_fields.specs.Signs.{sign_at}
 

@@ -6,22 +6,16 @@ ghost use Rattle.bit_lists.specs.Bits.{AreBits};
 ghost use Rattle.fixed_complex.specs.PairLists.{PairsWithin};
 ghost use Rattle.fixed_complex.specs.declared.Cx.{Cx};
 ghost use Rattle.fixed_complex.specs.Pairs.{zero_pair};
-ghost use Rattle.constellations.specs.Carriers.{bin_of, carries_data, data_carrier_of};
+ghost use Rattle.carrier_bins.specs.Carriers.{bin_of, carries_data, data_carrier_of};
 ghost use Rattle.rate_table.specs.Table.{bits_of_modulation};
 ghost use Rattle.rate_table.specs.declared.Modulation.{Modulation};
-ghost use Rattle.training_fields.specs.Bins.{carrier_in};
+ghost use Rattle.carrier_bins.specs.Bins.{carrier_in};
 ghost use Rattle.fixed_complex.specs.Samples.{SamplesWithin};
 ghost use Rattle.training_fields.specs.Nearness.{AreNearPlain};
 ghost use Rattle.symbol_builder.specs.Carriers.{pilot_at, pilot_sign_of, plain_symbol, sent_symbol, symbol_bin};
 ghost use Rattle.symbol_builder.specs.Points.{points_of};
 
-/// The bin of the carrier in a bin is that bin, and the carrier in the bin of a carrier is that carrier, for the bins
-/// below 64 and the carriers from -32 to 31 (own).
-pub fn carriers_and_bins()
-    ensures bin { (bin : ℕ) → bin < 64 → bin_of (carrier_in bin) ≡ bin }
-    ensures carrier { (carrier : ℤ) → neg_ℤ (pos 32) ≤ℤ carrier → carrier ≤ℤ pos 31
-        → carrier_in (bin_of carrier) ≡ carrier }
-{}
+pub use carrier_bins::laws::carriers_and_bins;
 
 /// A pilot's sign has size 1 on the carriers -21, -7, 7 and 21 and is 0 on all others, so it is 0 on every carrier with
 /// data (IEEE Std 802.11-2012, 18.3.5.9).

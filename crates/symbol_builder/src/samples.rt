@@ -2,7 +2,7 @@
 ghost use Rattle.std.specs.Prelude.{◌≡◌};
 ghost use Rattle.fixed_complex.specs.PairLists.{PairsWithin};
 ghost use Rattle.fixed_complex.specs.Samples.{sample_at, SamplesWithin};
-ghost use Rattle.training_fields.specs.Bins.{all_bins};
+ghost use Rattle.carrier_bins.specs.Bins.{all_bins};
 ghost use Rattle.training_fields.specs.Nearness.{AreNearPlain};
 ghost use Rattle.symbol_builder.specs.Carriers.{pilot_at, plain_symbol, sent_symbol, symbol_bins, symbol_times};
 

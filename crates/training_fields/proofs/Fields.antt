@@ -8,7 +8,7 @@ use Rattle.std.proofs.lemmas.List.FromFn.{length-map-range_with_len}
 use Rattle.fixed_complex.specs.declared.Cx.{Cx}
 use Rattle.fixed_complex.specs.Pairs.{IsOfSize, IsWithin}
 use Rattle.fixed_complex.specs.PairLists.{PairsWithin}
-use Rattle.training_fields.specs.Bins.{all_bins, by_bin, carrier_in}
+use Rattle.carrier_bins.specs.Bins.{all_bins, by_bin, carrier_in}
 use Rattle.training_fields.specs.Bounds.{FitASample}
 use Rattle.training_fields.specs.Signs.{sign_at}
 use Rattle.training_fields.specs.Training.{long_carrier, long_sign_of, short_carrier, short_sign_of}

@@ -6,7 +6,7 @@ use Rattle.integer_laws.proofs.FloorDivision.{rounding_within}
 use Rattle.integer_laws.proofs.Order.{unsigned_abs-product}
 use Rattle.fixed_complex.specs.declared.Cx.{Cx}
 use Rattle.fixed_complex.specs.Pairs.{IsWithin, multiple}
-use Rattle.training_fields.specs.Bins.{carrier_in}
+use Rattle.carrier_bins.specs.Bins.{carrier_in}
 
 -- a carrier's number
 pub carrier_held : (z : ℤ) (bin : ℕ) → unsigned_abs z ≤ 32 → z ≡ carrier_in bin → to_z w32 (of_z w32 z) ≡ carrier_in bin

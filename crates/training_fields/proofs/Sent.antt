@@ -7,7 +7,7 @@ use Rattle.fixed_complex.specs.PairLists.{PairsWithin, by_256, entry}
 use Rattle.butterfly64.specs.PlainSums.{plain_up}
 use Rattle.butterfly64.specs.StagedSums.{up_at}
 use Rattle.fixed_complex.specs.Samples.{sample_at, SamplesWithin, IsSampleWithin}
-use Rattle.training_fields.specs.Bins.{all_bins, by_bin}
+use Rattle.carrier_bins.specs.Bins.{all_bins, by_bin}
 use Rattle.training_fields.specs.Bodies.{all_times, plain_body, sent_body}
 use Rattle.training_fields.specs.Bounds.{FitASample}
 use Rattle.training_fields.specs.Nearness.{AreNearPlain, IsNearPlain}

@@ -1,5 +1,4 @@
 pub mod Signs
-pub mod Bins
 pub mod Bodies
 pub mod Bounds
 pub mod Nearness

@@ -3,7 +3,7 @@ use Rattle.std.specs.Prelude.{ℕ, ◌+◌, ◌%◌, List, ◌++◌, map, codes,
 use Rattle.std.specs.List.{range_with_len}
 use Rattle.fixed_complex.specs.declared.Cx.{Cx}
 use Rattle.fixed_complex.specs.declared.Sample.{Sample}
-use Rattle.training_fields.specs.Bins.{by_bin}
+use Rattle.carrier_bins.specs.Bins.{by_bin}
 use Rattle.training_fields.specs.Bodies.{plain_body, sample_of}
 use Rattle.training_fields.specs.Signs.{sign_at}
 

@@ -7,7 +7,7 @@ ghost use Rattle.fixed_complex.specs.Rounding.{half_up};
 ghost use Rattle.fixed_complex.specs.PairLists.{PairsWithin, by_256, entry};
 ghost use Rattle.fixed_complex.specs.Samples.{sample_at, SamplesWithin, IsSampleWithin};
 ghost use Rattle.training_fields.specs.Signs.{sign_at, sign_of};
-ghost use Rattle.training_fields.specs.Bins.{all_bins, carrier_in};
+ghost use Rattle.carrier_bins.specs.Bins.{all_bins, carrier_in};
 ghost use Rattle.training_fields.specs.Bodies.{all_times, plain_body, plain_sample, sample_of, sent_body};
 ghost use Rattle.training_fields.specs.Bounds.{FitASample};
 ghost use Rattle.training_fields.specs.Nearness.{AreNearPlain};
@@ -16,6 +16,7 @@ ghost use Rattle.training_fields.specs.Training.{long_carrier, long_sign_of, lon
 pub mod laws;
 
 use butterfly64::up;
+use carrier_bins::carrier_in;
 use fixed_complex::{Cx, Sample, add, mul, turn};
 
 // The signs of the carriers from -26 to 26: + for 1, - for -1, and 0.
@@ -98,19 +99,6 @@ pub fn long_carriers() -> [Cx; 64]
         };
     }
     carriers
-}
-
-// The carrier that stands in a bin.
-fn carrier_in(bin: usize) -> i32
-    requires { bin < 64 }
-    ensures carrier { result ≡ carrier_in bin }
-    ensures within { unsigned_abs result ≤ 32 }
-{
-    if bin < 32 {
-        bin as i32
-    } else {
-        bin as i32 - 64
-    }
 }
 
 /// The sent samples of both training fields, 160 each (IEEE Std 802.11-2012, 18.3.3). Each is within 1 of the plain

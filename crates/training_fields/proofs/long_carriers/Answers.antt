@@ -1,7 +1,7 @@
 use Rattle.std.proofs.Common.{◌≡◌, ◌∙◌, ap, refl, arith, w64, to_z, of_z, pos, ◌*ℤ◌}
 use Rattle.fixed_complex.specs.Pairs.{zero_pair}
 use Rattle.fixed_complex.proofs.Pairs.{same_parts}
-use Rattle.training_fields.specs.Bins.{by_bin}
+use Rattle.carrier_bins.specs.Bins.{by_bin}
 use Rattle.training_fields.specs.Training.{long_carrier, long_sign_of}
 use Rattle.integer_laws.proofs.Filled.{none_filled, one_more, all_filled}
 use Rattle.training_fields.proofs.Parts.{carrier_held, signed_648}

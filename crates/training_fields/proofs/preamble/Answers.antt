@@ -1,6 +1,6 @@
 use Rattle.std.proofs.Common.{ap, ◌∙◌}
 use Rattle.fixed_complex.specs.PairLists.{entry}
-use Rattle.training_fields.specs.Bins.{by_bin}
+use Rattle.carrier_bins.specs.Bins.{by_bin}
 use Rattle.training_fields.specs.Training.{long_carrier, short_carrier}
 use Rattle.training_fields.proofs.Bodies.{IsBody, is_body}
 use Rattle.training_fields.proofs.Fields.{long_fits, long_within, short_fits, short_within}

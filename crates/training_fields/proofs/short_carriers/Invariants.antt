@@ -1,5 +1,5 @@
 use Rattle.fixed_complex.specs.Pairs.{zero_pair}
-use Rattle.training_fields.specs.Bins.{by_bin}
+use Rattle.carrier_bins.specs.Bins.{by_bin}
 use Rattle.training_fields.specs.Training.{short_carrier}
 use Rattle.integer_laws.proofs.Filled.{IsFilled}
 use Rattle.training_fields.proofs.short_carriers.Given as goal

@@ -6,7 +6,7 @@ use Rattle.fixed_complex.specs.declared.Cx.{Cx}
 use Rattle.fixed_complex.specs.declared.Sample.{Sample}
 use Rattle.fixed_complex.specs.PairLists.{entry}
 use Rattle.fixed_complex.specs.Samples.{sample_at, SamplesWithin}
-use Rattle.training_fields.specs.Bins.{by_bin}
+use Rattle.carrier_bins.specs.Bins.{by_bin}
 use Rattle.training_fields.specs.Bodies.{all_times, plain_body, plain_sample, sample_of}
 use Rattle.training_fields.specs.Training.{long_carrier, long_times, short_carrier, short_times, template_of}
 use Rattle.training_fields.proofs.Fields.{long_fits, long_within, short_fits, short_within}

@@ -35,7 +35,7 @@ signs (negsuc n) =
       | inr past ↦ ap unsigned_abs (sign_below pilot_signs (negsuc n) (omega (arith, ints))) ∙ sym (none_above (unsigned_abs (negsuc n)) (omega (arith, size)))
     ]
 
-data_is_no_pilot : (a b c : Bool) → IsTrue (not (a || b || c)) → ◌≡◌ {A = ℕ} (if b || c then 1 else 0) 0
+data_is_no_pilot : (a b c : Bool) → IsTrue (not (a || (b || c))) → ◌≡◌ {A = ℕ} (if b || c then 1 else 0) 0
 data_is_no_pilot a false false h = refl
 data_is_no_pilot true true c h = cc
 data_is_no_pilot false true c h = cc

@@ -6,9 +6,9 @@ use Rattle.fixed_complex.specs.declared.Cx.{Cx}
 use Rattle.fixed_complex.specs.Pairs.{zero_pair}
 use Rattle.fixed_complex.specs.PairLists.{entry}
 use Rattle.fixed_complex.proofs.PairLists.{is_by_place, entry-map}
-use Rattle.constellations.specs.Carriers.{bin_of, data_carrier_of}
-use Rattle.constellations.proofs.Tables.{carrier-good}
-use Rattle.training_fields.specs.Bins.{by_bin}
+use Rattle.carrier_bins.specs.Carriers.{bin_of, data_carrier_of}
+use Rattle.carrier_bins.proofs.Tables.{carrier-good}
+use Rattle.carrier_bins.specs.Bins.{by_bin}
 use Rattle.symbol_builder.specs.Carriers.{pilot_at, symbol_bin}
 use Rattle.symbol_builder.proofs.Bins.{all_placed, none_placed, one_placed, others_stay, placed}
 use Rattle.symbol_builder.proofs.SymbolSizes.{symbol_within}

@@ -2,8 +2,8 @@ use Rattle.std.proofs.Common.{◌≡◌, ◌⊎◌, ℕ, List, set, replicate, a
 use Rattle.std.proofs.lemmas.Int.{ints}
 use Rattle.fixed_complex.specs.declared.Cx.{Cx}
 use Rattle.fixed_complex.specs.Pairs.{zero_pair}
-use Rattle.constellations.specs.Carriers.{bin_of}
-use Rattle.training_fields.specs.Bins.{all_bins}
+use Rattle.carrier_bins.specs.Carriers.{bin_of}
+use Rattle.carrier_bins.specs.Bins.{all_bins}
 use Rattle.training_fields.specs.Signs.{sign_at}
 use Rattle.symbol_builder.specs.Carriers.{pilot_sign_of}
 use Rattle.symbol_builder.proofs.Pilots.{polarity_cases, polarity_size}

@@ -1,8 +1,8 @@
 use Rattle.std.proofs.Common.{◌≤◌, arith}
 use Rattle.std.proofs.lemmas.Int.{ints}
-use Rattle.constellations.proofs.Tables.{carrier-in-run, IsRun-26, IsRun-25, IsRun-24, IsRun-23, IsRun-22, IsRun-21}
-use Rattle.constellations.proofs.data_carrier.Goals.{in_default-via-then-k-lt0, in_default-via-else-k-lt0+else-k-lt5+else-k-lt18+else-k-lt24+else-k-lt30+else-k-lt43}
-use Rattle.constellations.proofs.data_carrier.Goals as goal
+use Rattle.carrier_bins.proofs.Tables.{carrier-in-run, IsRun-26, IsRun-25, IsRun-24, IsRun-23, IsRun-22, IsRun-21}
+use Rattle.carrier_bins.proofs.data_carrier.Goals.{in_default-via-then-k-lt0, in_default-via-else-k-lt0+else-k-lt5+else-k-lt18+else-k-lt24+else-k-lt30+else-k-lt43}
+use Rattle.carrier_bins.proofs.data_carrier.Goals as goal
 
 pub returns-in-0-to-4 : goal.returns-in-0-to-4
 returns-in-0-to-4 c = record { carrier = omega (arith, ints, carrier-in-run 0 26 5 c.args.k IsRun-26 (omega (arith, ints)) (omega (arith, ints))) }

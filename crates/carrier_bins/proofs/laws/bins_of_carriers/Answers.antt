@@ -1,5 +1,5 @@
-use Rattle.constellations.proofs.Tables.{bin-lt, bin-distinct}
-use Rattle.constellations.proofs.laws.bins_of_carriers.Goals as goal
+use Rattle.carrier_bins.proofs.Tables.{bin-lt, bin-distinct}
+use Rattle.carrier_bins.proofs.laws.bins_of_carriers.Goals as goal
 
 pub returns-clause-within : goal.returns-clause-within
 returns-clause-within c = bin-lt

@@ -1,6 +1,6 @@
 use Rattle.std.proofs.Common.{rules}
-use Rattle.constellations.proofs.Tables.{carrier-good, carrier-distinct}
-use Rattle.constellations.proofs.laws.carriers_of_data.Goals as goal
+use Rattle.carrier_bins.proofs.Tables.{carrier-good, carrier-distinct}
+use Rattle.carrier_bins.proofs.laws.carriers_of_data.Goals as goal
 
 pub returns-clause-least : goal.returns-clause-least
 returns-clause-least c = λ k below. (carrier-good k below).least
