@@ -1,2 +1,3 @@
 pub mod Bins
 pub mod Tables
+pub mod Signs

@@ -1,2 +1,3 @@
 pub mod Carriers
 pub mod Bins
+pub mod Signs

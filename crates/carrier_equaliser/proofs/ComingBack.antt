@@ -18,8 +18,8 @@ use Rattle.fixed_complex.proofs.Pairs.{same_parts}
 use Rattle.fixed_complex.proofs.PairSizes.{size-conjugate, size-plus, size-times, wider}
 use Rattle.fixed_complex.proofs.TurnLaws.{turn-size}
 use Rattle.butterfly64.proofs.UpBudget.{size-multiple}
-use Rattle.training_fields.specs.Bodies.{all_times, plain_body}
-use Rattle.training_fields.specs.Nearness.{AreNearPlain}
+use Rattle.plain_waves.specs.Bodies.{all_times, plain_body}
+use Rattle.plain_waves.specs.Nearness.{AreNearPlain}
 use Rattle.fixed_complex.proofs.PairLists.{entry-map}
 use Rattle.carrier_equaliser.specs.Nearness.{AreNearPlainSums}
 use Rattle.carrier_equaliser.specs.Received.{pair_at}

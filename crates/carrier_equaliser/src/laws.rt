@@ -6,8 +6,8 @@ ghost use Rattle.fixed_complex.specs.Pairs.{IsOfSize, IsWithin, minus, multiple}
 ghost use Rattle.fixed_complex.specs.declared.Cx.{Cx};
 ghost use Rattle.fixed_complex.specs.declared.Sample.{Sample};
 ghost use Rattle.fixed_complex.specs.PairLists.{entry};
-ghost use Rattle.training_fields.specs.Bodies.{all_times, plain_body};
-ghost use Rattle.training_fields.specs.Nearness.{AreNearPlain};
+ghost use Rattle.plain_waves.specs.Bodies.{all_times, plain_body};
+ghost use Rattle.plain_waves.specs.Nearness.{AreNearPlain};
 ghost use Rattle.carrier_equaliser.specs.Nearness.{AreNearPlainSums};
 
 use butterfly64::laws::plain_sums_undone;

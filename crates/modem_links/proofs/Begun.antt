@@ -13,7 +13,7 @@ use Rattle.rate_table.specs.Symbols.{symbol_count}
 use Rattle.rate_table.specs.Table.{row_of}
 use Rattle.symbol_builder.specs.Carriers.{sent_symbol, symbol_bin, symbol_times}
 use Rattle.symbol_builder.specs.Points.{points_of_code}
-use Rattle.training_fields.specs.Bodies.{sent_body}
+use Rattle.plain_waves.specs.Bodies.{sent_body}
 use Rattle.training_fields.specs.Training.{preamble_of}
 use Rattle.modem_links.specs.Frames.{frame_of, frame_points, frame_symbol, signal_code}
 

@@ -21,9 +21,9 @@ use Rattle.rate_table.proofs.ByRate.{coded_bits_by_modulation}
 use Rattle.signal_field.specs.Signal.{header_bits_of}
 use Rattle.symbol_builder.specs.Carriers.{plain_symbol, sent_symbol}
 use Rattle.symbol_builder.specs.Points.{points_of, points_of_code}
-use Rattle.training_fields.specs.Bodies.{plain_body, sent_body}
+use Rattle.plain_waves.specs.Bodies.{plain_body, sent_body}
 use Rattle.fixed_complex.specs.Samples.{SamplesWithin}
-use Rattle.training_fields.specs.Nearness.{AreNearPlain}
+use Rattle.plain_waves.specs.Nearness.{AreNearPlain}
 use Rattle.training_fields.specs.Training.{preamble_of}
 use Rattle.modem_links.specs.Frames.{frame_points, plain_frame, sent_frame}
 use Rattle.modem_links.proofs.Begun.{all_symbols, begun_frame, no_symbols, one_symbol_more}

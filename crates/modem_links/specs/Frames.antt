@@ -12,7 +12,7 @@ use Rattle.capture_files.specs.Captures.{bytes_of_samples}
 use Rattle.signal_field.specs.Signal.{header_bits_of}
 use Rattle.symbol_builder.specs.Carriers.{symbol_bin, symbol_times}
 use Rattle.symbol_builder.specs.Points.{data_points, points_of_code}
-use Rattle.training_fields.specs.Bodies.{plain_body, sent_body}
+use Rattle.plain_waves.specs.Bodies.{plain_body, sent_body}
 use Rattle.training_fields.specs.Training.{preamble_of}
 
 -- the code of SIGNAL, for a PSDU of so many octets: that of its 24 bits, of which the reserved one is 0

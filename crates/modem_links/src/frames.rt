@@ -13,9 +13,9 @@ ghost use Rattle.rate_table.specs.Table.{row_of};
 ghost use Rattle.rate_table.specs.declared.Rate.TheVariants.{R6};
 ghost use Rattle.symbol_builder.specs.Carriers.{plain_symbol, sent_symbol};
 ghost use Rattle.symbol_builder.specs.Points.{points_of_code};
-ghost use Rattle.training_fields.specs.Bodies.{plain_body, sent_body};
+ghost use Rattle.plain_waves.specs.Bodies.{plain_body, sent_body};
 ghost use Rattle.fixed_complex.specs.Samples.{SamplesWithin};
-ghost use Rattle.training_fields.specs.Nearness.{AreNearPlain};
+ghost use Rattle.plain_waves.specs.Nearness.{AreNearPlain};
 ghost use Rattle.training_fields.specs.Training.{preamble_of};
 
 use crate::coded;

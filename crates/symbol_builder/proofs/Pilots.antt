@@ -5,7 +5,7 @@ use Rattle.integer_laws.proofs.Order.{unsigned_abs-product}
 use Rattle.integer_laws.proofs.Sizes.{size_of_parts}
 use Rattle.fixed_complex.specs.Pairs.{IsOfSize, IsWithin}
 use Rattle.carrier_bins.specs.Bins.{carrier_in}
-use Rattle.training_fields.specs.Signs.{sign_at}
+use Rattle.carrier_bins.specs.Signs.{sign_at}
 use Rattle.symbol_builder.specs.Carriers.{pilot_at, pilot_sign_of, polarity_of}
 
 of_test : (b : Bool) → ((if b then pos 1 else negsuc 0) ≡ pos 1) ⊎ ((if b then pos 1 else negsuc 0) ≡ negsuc 0)

@@ -1,5 +1,5 @@
 -- The table of polarities, by the recurrence of the sequence.
-use Rattle.std.proofs.Common.{◌≡◌, ℕ, zero, suc, ◌+◌, ◌<◌, Bool, true, false, ◌&&◌, ap, sym, ◌∙◌, refl, arith, inl, inr}
+use Rattle.std.proofs.Common.{◌≡◌, ℕ, zero, suc, ◌+◌, ◌<◌, ap, sym, ◌∙◌, refl, arith, inl, inr}
 use Rattle.std.proofs.lemmas.Bool.{cases_eq}
 use Rattle.bit_lists.specs.Bits.{exclusive_or}
 use Rattle.ofdm_scrambler.specs.Sequence.{from_minus_seven}

@@ -8,8 +8,8 @@ use Rattle.fixed_complex.specs.Pairs.{IsOfSize, IsWithin}
 use Rattle.fixed_complex.specs.PairLists.{PairsWithin, entry}
 use Rattle.carrier_bins.specs.Carriers.{bin_of, data_carrier_of}
 use Rattle.carrier_bins.specs.Bins.{carrier_in}
-use Rattle.training_fields.specs.Bounds.{FitASample}
-use Rattle.training_fields.specs.Signs.{sign_at}
+use Rattle.plain_waves.specs.Bounds.{FitASample}
+use Rattle.carrier_bins.specs.Signs.{sign_at}
 use Rattle.fixed_complex.proofs.PairLists.{entry-map, everywhere_within}
 use Rattle.symbol_builder.specs.Carriers.{data_number_in, pilot_sign_of, symbol_bin, symbol_bins}
 use Rattle.symbol_builder.proofs.Pilots.{pilot_size, pilot_within}

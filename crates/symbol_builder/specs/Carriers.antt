@@ -7,8 +7,8 @@ use Rattle.fixed_complex.specs.Pairs.{zero_pair}
 use Rattle.carrier_bins.specs.Carriers.{bin_of, data_carrier_of}
 use Rattle.ofdm_scrambler.specs.Sequence.{scrambler_bit}
 use Rattle.carrier_bins.specs.Bins.{carrier_in}
-use Rattle.training_fields.specs.Bodies.{plain_body, sent_body}
-use Rattle.training_fields.specs.Signs.{sign_at}
+use Rattle.plain_waves.specs.Bodies.{plain_body, sent_body}
+use Rattle.carrier_bins.specs.Signs.{sign_at}
 
 -- p_n: 1 where the sequence of the seed of seven ones has 0 at n modulo 127, and -1 where it has 1
 unfoldable pub polarity_of : ℕ → ℤ

@@ -11,7 +11,7 @@ ghost use Rattle.rate_table.specs.Table.{bits_of_modulation};
 ghost use Rattle.rate_table.specs.declared.Modulation.{Modulation};
 ghost use Rattle.carrier_bins.specs.Bins.{carrier_in};
 ghost use Rattle.fixed_complex.specs.Samples.{SamplesWithin};
-ghost use Rattle.training_fields.specs.Nearness.{AreNearPlain};
+ghost use Rattle.plain_waves.specs.Nearness.{AreNearPlain};
 ghost use Rattle.symbol_builder.specs.Carriers.{pilot_at, pilot_sign_of, plain_symbol, sent_symbol, symbol_bin};
 ghost use Rattle.symbol_builder.specs.Points.{points_of};
 
@@ -51,5 +51,5 @@ pub fn sent_symbols()
     ensures within { (points : List Cx) (n : ℕ) → PairsWithin 700 points
         → SamplesWithin 25057 (sent_symbol points n) }
 {
-    training_fields::laws::sent_bodies();
+    plain_waves::laws::sent_bodies();
 }

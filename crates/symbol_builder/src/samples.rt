@@ -3,13 +3,13 @@ ghost use Rattle.std.specs.Prelude.{◌≡◌};
 ghost use Rattle.fixed_complex.specs.PairLists.{PairsWithin};
 ghost use Rattle.fixed_complex.specs.Samples.{sample_at, SamplesWithin};
 ghost use Rattle.carrier_bins.specs.Bins.{all_bins};
-ghost use Rattle.training_fields.specs.Nearness.{AreNearPlain};
+ghost use Rattle.plain_waves.specs.Nearness.{AreNearPlain};
 ghost use Rattle.symbol_builder.specs.Carriers.{pilot_at, plain_symbol, sent_symbol, symbol_bins, symbol_times};
 
 use crate::polarity;
 use constellations::{bin, data_carrier};
 use fixed_complex::{Cx, Sample};
-use training_fields::sent_samples;
+use plain_waves::sent_samples;
 
 // What a pilot carries, but for its sign.
 const PILOT_AMPLITUDE: i64 = 648;

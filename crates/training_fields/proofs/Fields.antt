@@ -1,16 +1,14 @@
 -- What the training fields carry is within its bounds.
-use Rattle.std.proofs.Common.{◌≡◌, ℕ, ◌*◌, ◌<◌, ◌≤◌, Bool, true, ◌&&◌, leb, map, sum, refl, arith, ℤ, pos, ◌+ℤ◌, ◌*ℤ◌, ◌≤ℤ◌, unsigned_abs}
-use Rattle.std.specs.Prelude.{int_le}
+use Rattle.std.proofs.Common.{◌≡◌, ℕ, ◌*◌, ◌<◌, ◌≤◌, Bool, true, ◌&&◌, map, sum, refl, arith, unsigned_abs}
 use Rattle.std.specs.List.{range_with_len}
 use Rattle.std.proofs.lemmas.Bool.{leb-true, agree_below_at, and_parts}
-use Rattle.std.proofs.lemmas.Int.{ints}
 use Rattle.std.proofs.lemmas.List.FromFn.{length-map-range_with_len}
 use Rattle.fixed_complex.specs.declared.Cx.{Cx}
 use Rattle.fixed_complex.specs.Pairs.{IsOfSize, IsWithin}
 use Rattle.fixed_complex.specs.PairLists.{PairsWithin}
 use Rattle.carrier_bins.specs.Bins.{all_bins, by_bin, carrier_in}
-use Rattle.training_fields.specs.Bounds.{FitASample}
-use Rattle.training_fields.specs.Signs.{sign_at}
+use Rattle.plain_waves.specs.Bounds.{FitASample}
+use Rattle.carrier_bins.specs.Signs.{sign_at}
 use Rattle.training_fields.specs.Training.{long_carrier, long_sign_of, short_carrier, short_sign_of}
 use Rattle.fixed_complex.proofs.PairLists.{entry-map}
 use Rattle.fixed_complex.proofs.ByTable.{is_of_size, is_within, size_test, within_test}

@@ -1,5 +1,1 @@
-pub mod Signs
-pub mod Bodies
-pub mod Bounds
-pub mod Nearness
 pub mod Training

@@ -4,8 +4,8 @@ use Rattle.std.specs.List.{range_with_len}
 use Rattle.fixed_complex.specs.declared.Cx.{Cx}
 use Rattle.fixed_complex.specs.declared.Sample.{Sample}
 use Rattle.carrier_bins.specs.Bins.{by_bin}
-use Rattle.training_fields.specs.Bodies.{plain_body, sample_of}
-use Rattle.training_fields.specs.Signs.{sign_at}
+use Rattle.plain_waves.specs.Bodies.{plain_body, sample_of}
+use Rattle.carrier_bins.specs.Signs.{sign_at}
 
 -- S: the signs of the short training field on the carriers from -26 to 26
 abbrev pub short_signs : List ℕ

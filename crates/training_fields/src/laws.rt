@@ -5,11 +5,13 @@ ghost use Rattle.std.specs.Prelude.{◌≡◌, ◌&&◌, ◌++◌, ℕ, List, na
 ghost use Rattle.fixed_complex.specs.PairLists.{PairsWithin, entry};
 ghost use Rattle.fixed_complex.specs.declared.Cx.{Cx};
 ghost use Rattle.fixed_complex.specs.declared.Sample.{Sample};
-ghost use Rattle.training_fields.specs.Bodies.{all_times, plain_body, sent_body};
-ghost use Rattle.training_fields.specs.Bounds.{FitASample};
+ghost use Rattle.plain_waves.specs.Bodies.{all_times, plain_body, sent_body};
+ghost use Rattle.plain_waves.specs.Bounds.{FitASample};
 ghost use Rattle.fixed_complex.specs.Samples.{SamplesWithin};
-ghost use Rattle.training_fields.specs.Nearness.{AreNearPlain};
+ghost use Rattle.plain_waves.specs.Nearness.{AreNearPlain};
 ghost use Rattle.training_fields.specs.Training.{long_sign_of, preamble_of};
+
+pub use plain_waves::laws::{samples_behind_samples, sent_bodies};
 
 /// L is 1 or -1 on the carriers from -26 to 26 but 0, and 0 on all others (IEEE Std 802.11-2012, 18.3.3).
 pub fn carriers_of_long_training()
@@ -17,31 +19,9 @@ pub fn carriers_of_long_training()
         ≡ (if nat_lt 0 (unsigned_abs carrier) && nat_lt (unsigned_abs carrier) 27 then 1 else 0) }
 {}
 
-/// Samples behind samples are near plain ones behind plain ones where both lists are, and within a bound where both are
-/// (own).
-pub fn samples_behind_samples()
-    ensures near { (bound : ℕ) (front back : List Sample) (plain behind : List Cx) → AreNearPlain bound front plain
-        → AreNearPlain bound back behind → AreNearPlain bound (front ++ back) (plain ++ behind) }
-    ensures within { (bound : ℕ) (front back : List Sample) → SamplesWithin bound front
-        → SamplesWithin bound back → SamplesWithin bound (front ++ back) }
-{}
-
-/// The body that is sent of any 64 carriers with components of at most 954 that fit a sample is within 1 of the plain
-/// body, and no component is larger than 25057 in size (own).
-pub fn sent_bodies()
-    ensures near { (carriers : List Cx) → PairsWithin 954 carriers
-        → AreNearPlain 1 (all_times (sent_body (entry carriers))) (all_times (plain_body (entry carriers))) }
-    ensures within { (carriers : List Cx) → PairsWithin 954 carriers → FitASample carriers
-        → SamplesWithin 25057 (all_times (sent_body (entry carriers))) }
-{
-    butterfly64::laws::sent_samples();
-}
-
 /// The sent samples of both training fields are within 1 of the plain ones, and no component is larger than 25057 in
 /// size (own).
 pub fn sent_preamble()
     ensures near { AreNearPlain 1 (preamble_of sent_body) (preamble_of plain_body) }
     ensures within { SamplesWithin 25057 (preamble_of sent_body) }
-{
-    butterfly64::laws::sent_samples();
-}
+{}

@@ -1,4 +1,4 @@
-//! The training fields of a frame (IEEE Std 802.11-2012, 18.3.3), and the bodies of 64 samples. No call takes memory.
+//! The training fields of a frame (IEEE Std 802.11-2012, 18.3.3). No call takes memory.
 #![tactic(auto)]
 
 ghost use Rattle.std.specs.Prelude.{◌≡◌, ℕ, ◌+◌, ◌*◌, ◌^◌, ◌<◌, ◌≤◌, ◌++◌, map, unsigned_abs};
@@ -6,18 +6,19 @@ ghost use Rattle.fixed_complex.specs.Pairs.{IsWithin};
 ghost use Rattle.fixed_complex.specs.Rounding.{half_up};
 ghost use Rattle.fixed_complex.specs.PairLists.{PairsWithin, by_256, entry};
 ghost use Rattle.fixed_complex.specs.Samples.{sample_at, SamplesWithin, IsSampleWithin};
-ghost use Rattle.training_fields.specs.Signs.{sign_at, sign_of};
+ghost use Rattle.carrier_bins.specs.Signs.{sign_at, sign_of};
 ghost use Rattle.carrier_bins.specs.Bins.{all_bins, carrier_in};
-ghost use Rattle.training_fields.specs.Bodies.{all_times, plain_body, plain_sample, sample_of, sent_body};
-ghost use Rattle.training_fields.specs.Bounds.{FitASample};
-ghost use Rattle.training_fields.specs.Nearness.{AreNearPlain};
+ghost use Rattle.plain_waves.specs.Bodies.{all_times, plain_body, plain_sample, sample_of, sent_body};
+ghost use Rattle.plain_waves.specs.Bounds.{FitASample};
+ghost use Rattle.plain_waves.specs.Nearness.{AreNearPlain};
 ghost use Rattle.training_fields.specs.Training.{long_carrier, long_sign_of, long_times, preamble_of, short_carrier, short_sign_of, short_times, template_of};
 
 pub mod laws;
 
-use butterfly64::up;
 use carrier_bins::carrier_in;
-use fixed_complex::{Cx, Sample, add, mul, turn};
+use fixed_complex::{Cx, Sample};
+use plain_waves::plain_samples;
+pub use plain_waves::sent_samples;
 
 // The signs of the carriers from -26 to 26: + for 1, - for -1, and 0.
 static SHORT_SIGNS: [u8; 53] = *b"00+000-000+000-000-000+0000000-000-000+000+000+000+00";
@@ -126,52 +127,6 @@ fn in_time(short: &[Sample; 64], long: &[Sample; 64]) -> [Sample; 320]
     samples
 }
 
-/// The body that is sent: the 64 samples of what the carriers carry, given by bin, each component at most 954 in size,
-/// and with bounds on the sizes of the 64 pairs that sum to at most 50112 (own). Each sample is within 1 of the plain
-/// one, which is half the sum of the carriers, and no component is larger than 25057 in size.
-pub fn sent_samples(carriers: &[Cx; 64]) -> [Sample; 64]
-    requires within { PairsWithin 954 carriers.now }
-    requires fits { FitASample carriers.now }
-    ensures samples { result ≡ all_times (sent_body (entry carriers.now)) }
-    ensures near { AreNearPlain 1 result (all_times (plain_body (entry carriers.now))) }
-    ensures within { SamplesWithin 25057 result }
-{
-    butterfly64::laws::sent_samples();
-    let sums = up(&by_256(carriers));
-    let mut samples = [SILENCE; 64];
-    for n in 0..64 {
-        samples[n] = over_2_9(sums[n]);
-    }
-    samples
-}
-
-// The carriers times 256.
-fn by_256(carriers: &[Cx; 64]) -> [Cx; 64]
-    requires { PairsWithin 954 carriers.now }
-    ensures carriers { (bin : ℕ) → bin < 64 → entry result bin ≡ by_256 (entry carriers.now) bin }
-    ensures within { PairsWithin (2 ^ 30) result }
-{
-    let mut enlarged = *carriers;
-    for bin in 0..64 {
-        enlarged[bin] = Cx {
-            re: 256 * carriers[bin].re,
-            im: 256 * carriers[bin].im,
-        };
-    }
-    enlarged
-}
-
-// A sample: a staged sum over 512, rounded half up.
-fn over_2_9(sum: Cx) -> Sample
-    requires { IsSampleWithin 25057 (sample_of 9 sum) }
-    ensures { result ≡ sample_of 9 sum }
-{
-    Sample {
-        i: ((sum.re + (1 << 8)) >> 9) as i16,
-        q: ((sum.im + (1 << 8)) >> 9) as i16,
-    }
-}
-
 /// The template of the search for a frame: the 320 samples of the plain waveform of both training fields, each
 /// component rounded half up (own).
 pub fn template() -> [Sample; 320]
@@ -182,44 +137,6 @@ pub fn template() -> [Sample; 320]
         &plain_samples(&short_carriers()),
         &plain_samples(&long_carriers()),
     )
-}
-
-// The plain body, rounded to samples.
-fn plain_samples(carriers: &[Cx; 64]) -> [Sample; 64]
-    requires within { PairsWithin 954 carriers.now }
-    requires fits { FitASample carriers.now }
-    ensures samples { result ≡ all_times (plain_sample (entry carriers.now)) }
-    ensures within { SamplesWithin 25057 result }
-{
-    let mut samples = [SILENCE; 64];
-    for n in 0..64 {
-        samples[n] = over_2_21(plain_sum(carriers, n));
-    }
-    samples
-}
-
-// The plain sum of the carriers at a time: 2^21 times a real sample.
-fn plain_sum(carriers: &[Cx; 64], n: usize) -> Cx
-    requires within { PairsWithin 954 carriers.now }
-    requires time { n < 64 }
-    ensures { result ≡ plain_body (entry carriers.now) n }
-{
-    let mut sum = ZERO;
-    for bin in 0..64 {
-        sum = add(sum, mul(carriers[bin], turn(bin * n)));
-    }
-    sum
-}
-
-// A sample: a plain sum over 2^21, rounded half up.
-fn over_2_21(sum: Cx) -> Sample
-    requires { IsSampleWithin 25057 (sample_of 21 sum) }
-    ensures { result ≡ sample_of 21 sum }
-{
-    Sample {
-        i: ((sum.re + (1 << 20)) >> 21) as i16,
-        q: ((sum.im + (1 << 20)) >> 21) as i16,
-    }
 }
 
 #[cfg(test)]

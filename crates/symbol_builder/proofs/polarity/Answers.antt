@@ -1,4 +1,4 @@
-use Rattle.std.proofs.Common.{◌≡◌, ℕ, ◌+◌, ◌-◌, ◌%◌, ◌<◌, ◌∙◌, Bool, true, false, ap, sym, refl, get_or, nat_eq, nat_lt, if◌then◌else◌, ℤ, pos, negsuc, w64, to_z, of_z, arith}
+use Rattle.std.proofs.Common.{◌≡◌, ℕ, ◌+◌, ◌-◌, ◌%◌, ◌<◌, ◌∙◌, true, ap, sym, refl, get_or, nat_eq, nat_lt, if◌then◌else◌, ℤ, pos, negsuc, w64, to_z, of_z, arith}
 use Rattle.std.proofs.lemmas.Bool.{eqb-true, agree_below_at}
 use Rattle.bit_lists.specs.Bits.{exclusive_or}
 use Rattle.ofdm_scrambler.specs.Sequence.{from_minus_seven}

@@ -2,10 +2,10 @@ use Rattle.std.proofs.Common.{ap, ◌∙◌}
 use Rattle.fixed_complex.specs.PairLists.{entry}
 use Rattle.carrier_bins.specs.Bins.{by_bin}
 use Rattle.training_fields.specs.Training.{long_carrier, short_carrier}
-use Rattle.training_fields.proofs.Bodies.{IsBody, is_body}
+use Rattle.plain_waves.proofs.Bodies.{IsBody, is_body}
 use Rattle.training_fields.proofs.Fields.{long_fits, long_within, short_fits, short_within}
 use Rattle.fixed_complex.proofs.PairLists.{entry-map}
-use Rattle.training_fields.proofs.Sent.{both_exact, both_near, both_within}
+use Rattle.training_fields.proofs.BothFields.{both_exact, both_near, both_within}
 use Rattle.training_fields.proofs.preamble.Goals as goal
 
 pub sent_samples-requires-clause-within : goal.sent_samples-requires-clause-within

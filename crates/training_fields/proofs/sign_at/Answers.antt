@@ -1,6 +1,6 @@
 use Rattle.std.proofs.Common.{◌≡◌, ◌∙◌, sym, unsigned_abs, arith, w64, w32, to_z, of_z, pos, ◌+ℤ◌}
 use Rattle.std.proofs.lemmas.Int.{ints}
-use Rattle.training_fields.proofs.Signs.{sign_above, sign_below, sign_inside}
+use Rattle.carrier_bins.proofs.Signs.{sign_above, sign_below, sign_inside}
 use Rattle.training_fields.proofs.sign_at.Goals as goal
 
 pub returns-in-minus26-to-26-clause-sign : goal.returns-in-minus26-to-26-clause-sign

@@ -7,10 +7,10 @@ use Rattle.fixed_complex.specs.declared.Sample.{Sample}
 use Rattle.fixed_complex.specs.PairLists.{entry}
 use Rattle.fixed_complex.specs.Samples.{sample_at, SamplesWithin}
 use Rattle.carrier_bins.specs.Bins.{by_bin}
-use Rattle.training_fields.specs.Bodies.{all_times, plain_body, plain_sample, sample_of}
+use Rattle.plain_waves.specs.Bodies.{all_times, plain_body, plain_sample, sample_of}
 use Rattle.training_fields.specs.Training.{long_carrier, long_times, short_carrier, short_times, template_of}
 use Rattle.training_fields.proofs.Fields.{long_fits, long_within, short_fits, short_within}
-use Rattle.training_fields.proofs.Places.{plain_body-local, within-append, within-map}
+use Rattle.plain_waves.proofs.Places.{plain_body-local, within-append, within-map}
 use Rattle.fixed_complex.proofs.PairLists.{entry-map}
 use Rattle.fixed_complex.proofs.Samples.{sample-map}
 use Rattle.training_fields.proofs.template.Goals as goal

@@ -1,7 +1,7 @@
 use Rattle.std.proofs.Common.{◌≡◌, ◌++◌, ◌∙◌, ap}
 use Rattle.rate_table.specs.declared.Rate.TheVariants.{R6}
 use Rattle.symbol_builder.specs.Carriers.{sent_symbol}
-use Rattle.training_fields.specs.Bodies.{sent_body}
+use Rattle.plain_waves.specs.Bodies.{sent_body}
 use Rattle.training_fields.specs.Training.{preamble_of}
 use Rattle.symbol_builder.specs.Points.{points_of_code}
 use Rattle.modem_links.specs.Frames.{signal_code}

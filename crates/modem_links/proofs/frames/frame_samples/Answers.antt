@@ -3,7 +3,7 @@ use Rattle.std.proofs.lemmas.List.Elements.{All-drop, All-take}
 use Rattle.bit_lists.specs.Bits.{AreBits, IsBit}
 use Rattle.rate_table.specs.Symbols.{symbol_count}
 use Rattle.rate_table.specs.Table.{row_of}
-use Rattle.training_fields.specs.Bodies.{sent_body}
+use Rattle.plain_waves.specs.Bodies.{sent_body}
 use Rattle.modem_links.proofs.Begun.{all_symbols, head_is, part_is, points_are, samples_are}
 use Rattle.modem_links.proofs.frames.frame_samples.Goals as goal
 

@@ -1,5 +1,5 @@
 use Rattle.std.proofs.Common.{◌≡◌, ◌+◌, ◌*◌, length}
-use Rattle.training_fields.specs.Bodies.{sent_body}
+use Rattle.plain_waves.specs.Bodies.{sent_body}
 use Rattle.modem_links.proofs.Begun.{begun_frame}
 use Rattle.modem_links.proofs.frames.frame_samples.Given as goal
 

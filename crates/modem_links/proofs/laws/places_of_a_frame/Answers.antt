@@ -1,5 +1,5 @@
 use Rattle.fixed_complex.specs.Pairs.{zero_pair}
-use Rattle.training_fields.specs.Bodies.{plain_body, sent_body}
+use Rattle.plain_waves.specs.Bodies.{plain_body, sent_body}
 use Rattle.modem_links.proofs.FramePlaces.{in_preamble, in_symbol, length-frame}
 use Rattle.modem_links.proofs.laws.places_of_a_frame.Goals as goal
 

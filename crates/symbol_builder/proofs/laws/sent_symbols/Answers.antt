@@ -3,11 +3,11 @@ use Rattle.std.proofs.lemmas.List.FromFn.{length-map-range_with_len}
 use Rattle.fixed_complex.specs.declared.Cx.{Cx}
 use Rattle.fixed_complex.specs.PairLists.{PairsWithin, entry}
 use Rattle.fixed_complex.proofs.PairSizes.{within_wider}
-use Rattle.training_fields.specs.Bodies.{all_times, plain_body, sent_body}
-use Rattle.training_fields.specs.Bounds.{FitASample}
+use Rattle.plain_waves.specs.Bodies.{all_times, plain_body, sent_body}
+use Rattle.plain_waves.specs.Bounds.{FitASample}
 use Rattle.fixed_complex.specs.Samples.{SamplesWithin}
-use Rattle.training_fields.specs.Nearness.{AreNearPlain}
-use Rattle.training_fields.proofs.Bodies.{IsBody, exact-at, is_body, near-at, within-at}
+use Rattle.plain_waves.specs.Nearness.{AreNearPlain}
+use Rattle.plain_waves.proofs.Bodies.{IsBody, exact-at, is_body, near-at, within-at}
 use Rattle.fixed_complex.proofs.PairLists.{entry-map}
 use Rattle.symbol_builder.specs.Carriers.{plain_symbol, symbol_bin, symbol_bins}
 use Rattle.symbol_builder.proofs.SymbolSizes.{symbol_fits, symbol_within}

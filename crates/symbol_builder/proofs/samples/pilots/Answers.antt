@@ -4,7 +4,7 @@ use Rattle.fixed_complex.specs.declared.Cx.{Cx}
 use Rattle.fixed_complex.specs.Pairs.{zero_pair}
 use Rattle.carrier_bins.specs.Carriers.{bin_of}
 use Rattle.carrier_bins.specs.Bins.{all_bins}
-use Rattle.training_fields.specs.Signs.{sign_at}
+use Rattle.carrier_bins.specs.Signs.{sign_at}
 use Rattle.symbol_builder.specs.Carriers.{pilot_sign_of}
 use Rattle.symbol_builder.proofs.Pilots.{polarity_cases, polarity_size}
 use Rattle.symbol_builder.proofs.samples.pilots.Goals as goal

@@ -1,7 +1,7 @@
 use Rattle.std.proofs.Common.{◌+◌, ◌%◌, ◌∙◌, ap, arith}
 use Rattle.fixed_complex.specs.PairLists.{entry}
 use Rattle.fixed_complex.proofs.PairSizes.{within_wider}
-use Rattle.training_fields.proofs.Bodies.{IsBody, exact-at, is_body, near-at, within-at}
+use Rattle.plain_waves.proofs.Bodies.{IsBody, exact-at, is_body, near-at, within-at}
 use Rattle.fixed_complex.proofs.PairLists.{entry-map}
 use Rattle.symbol_builder.specs.Carriers.{symbol_bin}
 use Rattle.symbol_builder.proofs.SymbolSizes.{symbol_fits}

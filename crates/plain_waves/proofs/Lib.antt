@@ -1,0 +1,5 @@
+pub mod Bodies
+pub mod Loads
+mod Parts
+pub mod Places
+pub mod Sent

@@ -1,0 +1,8 @@
+use Rattle.std.proofs.Common.{pos}
+use Rattle.fixed_complex.specs.PairLists.{entry}
+use Rattle.plain_waves.specs.Bodies.{plain_sample}
+use Rattle.integer_laws.proofs.Filled.{IsFilled}
+use Rattle.plain_waves.proofs.plain_samples.Given as goal
+
+abbrev pub invariant-loop-n : goal.invariant-loop-n
+invariant-loop-n l = IsFilled (record { i = pos 0; q = pos 0 }) (plain_sample (entry l.carriers)) 64 l.n l.samples
