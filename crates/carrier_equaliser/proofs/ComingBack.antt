@@ -16,13 +16,14 @@ use Rattle.fixed_complex.specs.PairLists.{entry}
 use Rattle.fixed_complex.proofs.Sums.{minus_sums, multiple_sum, same_sums}
 use Rattle.fixed_complex.proofs.Pairs.{same_parts}
 use Rattle.fixed_complex.proofs.PairSizes.{size-conjugate, size-plus, size-times, wider}
-use Rattle.fixed_complex.proofs.TurnLaws.{turn-size}
+use Rattle.fixed_complex.proofs.TurnLaws.{turn-size, turn-sum}
 use Rattle.butterfly64.proofs.UpBudget.{size-multiple}
 use Rattle.plain_waves.specs.Bodies.{all_times, plain_body}
 use Rattle.plain_waves.specs.Nearness.{AreNearPlain}
 use Rattle.fixed_complex.proofs.PairLists.{entry-map}
 use Rattle.carrier_equaliser.specs.Nearness.{AreNearPlainSums}
 use Rattle.carrier_equaliser.specs.Received.{pair_at}
+use Rattle.butterfly64.proofs.PlainBack.{near_carrier}
 
 -- ---- what a plain sum of samples has beside that of a plain body
 -- 2^21 times a pair, less the plain one
@@ -107,49 +108,47 @@ within-turned a s e t within small =
       im = omega (arith, all, re_im, im_re, unsigned_abs-sum (e.re *ℤ back) (e.im *ℤ t.re));
     }
 
-within-plain_down : (turns : (m : ℕ) → unsigned_abs (turn_at m).re + unsigned_abs (turn_at m).im ≤ 1482910) (bound : ℕ) (e : ℕ → Cx) (c : ℕ) → ((n : ℕ) → n < 64 → IsWithin (2097152 * bound) (e n)) → IsWithin (64 * (2097152 * bound * 1482910)) (plain_down e c)
-within-plain_down turns bound e c within =
+within-plain_down : (bound : ℕ) (e : ℕ → Cx) (c : ℕ) → ((n : ℕ) → n < 64 → IsWithin (2097152 * bound) (e n)) → IsWithin (64 * (2097152 * bound * 1482910)) (plain_down e c)
+within-plain_down bound e c within =
     within-sum_below 64 (2097152 * bound * 1482910) (λ n. times (e n) (conjugate (turn_at (c * n))))
-    (λ n lt. within-turned (2097152 * bound) 1482910 (e n) (turn_at (c * n)) (within n lt) (turns (c * n)))
+    (λ n lt. within-turned (2097152 * bound) 1482910 (e n) (turn_at (c * n)) (within n lt) (turn-sum (c * n)))
 
 part_back : (bound : ℕ) (y f p x : ℤ) → unsigned_abs (pos 1048576 *ℤ y -ℤ f) ≤ 40 * 2 ^ 20 → unsigned_abs (pos 2097152 *ℤ f -ℤ p) ≤ 64 * (2097152 * bound * 1482910) → unsigned_abs (p -ℤ pos 70368744177664 *ℤ x) ≤ 9 * 2 ^ 41 → unsigned_abs (y -ℤ pos 32 *ℤ x) ≤ 91 * bound + 49
 part_back bound y f p x near noise undone = omega (arith, ints)
 
 -- ---- the law
-module _ (turns : (m : ℕ) → unsigned_abs (turn_at m).re + unsigned_abs (turn_at m).im ≤ 1482910)
-    (undone : (x : ℕ → Cx) → ((c : ℕ) → IsWithin 954 (x c)) → (c : ℕ) → c < 64 → IsWithin (9 * 2 ^ 41) (minus (plain_down (plain_up x) c) (multiple (pos 70368744177664) (x c)))) where
-  module _ (bound : ℕ) (sent : ℕ → Cx) (body : List Sample) (carriers : List Cx) (sent_within : (bin : ℕ) → IsWithin 954 (sent bin))
-      (near : AreNearPlain bound body (all_times (plain_body sent))) (sums : AreNearPlainSums 40 carriers body) (bin : ℕ) (lt : bin < 64) where
-    near_body : (n : ℕ) → n < 64 → IsWithin (2097152 * bound) (deviation (pair_at body) (plain_up sent) n)
-    near_body n below =
-        let here : n < length body = omega (arith, near.long, length-map-range_with_len (plain_body sent) 0 64) in
-        let part = rw (entry-map (plain_body sent) 64 n below) at (near.each n here) in
-        record { re = part.i; im = part.q }
+module _ (bound : ℕ) (sent : ℕ → Cx) (body : List Sample) (carriers : List Cx) (sent_within : (bin : ℕ) → IsWithin 954 (sent bin))
+    (near : AreNearPlain bound body (all_times (plain_body sent))) (sums : AreNearPlainSums 40 carriers body) (bin : ℕ) (lt : bin < 64) where
+  near_body : (n : ℕ) → n < 64 → IsWithin (2097152 * bound) (deviation (pair_at body) (plain_up sent) n)
+  near_body n below =
+      let here : n < length body = omega (arith, near.long, length-map-range_with_len (plain_body sent) 0 64) in
+      let part = rw (entry-map (plain_body sent) 64 n below) at (near.each n here) in
+      record { re = part.i; im = part.q }
 
-    abbrev y : Cx
-    y = entry carriers bin
+  abbrev y : Cx
+  y = entry carriers bin
 
-    abbrev f : Cx
-    f = plain_down (pair_at body) bin
+  abbrev f : Cx
+  f = plain_down (pair_at body) bin
 
-    abbrev p : Cx
-    p = plain_down (plain_up sent) bin
+  abbrev p : Cx
+  p = plain_down (plain_up sent) bin
 
-    near_sum : IsWithin (40 * 2 ^ 20) (minus (multiple (pos 1048576) y) f)
-    near_sum = let part = sums.each bin lt in record { re = part.re; im = part.im }
+  near_sum : IsWithin (40 * 2 ^ 20) (minus (multiple (pos 1048576) y) f)
+  near_sum = let part = sums.each bin lt in record { re = part.re; im = part.im }
 
-    pub comes_back : IsOfSize (91 * bound + 70) (minus y (multiple (pos 32) (sent bin)))
-    comes_back =
-        let noise : IsOfSize (64 * (2965821 * bound * 1048577)) (minus (multiple (pos 2097152) f) p) =
-        rw (plain_down-deviation (pair_at body) (plain_up sent) bin) (size-plain_down bound (deviation (pair_at body) (plain_up sent)) bin near_body) in
-        size_back bound y f p (sent bin) near_sum noise (undone sent sent_within bin lt)
+  pub comes_back : IsOfSize (91 * bound + 70) (minus y (multiple (pos 32) (sent bin)))
+  comes_back =
+      let noise : IsOfSize (64 * (2965821 * bound * 1048577)) (minus (multiple (pos 2097152) f) p) =
+      rw (plain_down-deviation (pair_at body) (plain_up sent) bin) (size-plain_down bound (deviation (pair_at body) (plain_up sent)) bin near_body) in
+      size_back bound y f p (sent bin) near_sum noise (near_carrier bin lt sent sent_within)
 
-    pub parts_come_back : IsWithin (91 * bound + 49) (minus y (multiple (pos 32) (sent bin)))
-    parts_come_back =
-        let noise : IsWithin (64 * (2097152 * bound * 1482910)) (minus (multiple (pos 2097152) f) p) =
-        rw (plain_down-deviation (pair_at body) (plain_up sent) bin) (within-plain_down turns bound (deviation (pair_at body) (plain_up sent)) bin near_body) in
-        let table = undone sent sent_within bin lt in
-        record {
-          re = part_back bound y.re f.re p.re (sent bin).re near_sum.re noise.re table.re;
-          im = part_back bound y.im f.im p.im (sent bin).im near_sum.im noise.im table.im;
-        }
+  pub parts_come_back : IsWithin (91 * bound + 49) (minus y (multiple (pos 32) (sent bin)))
+  parts_come_back =
+      let noise : IsWithin (64 * (2097152 * bound * 1482910)) (minus (multiple (pos 2097152) f) p) =
+      rw (plain_down-deviation (pair_at body) (plain_up sent) bin) (within-plain_down bound (deviation (pair_at body) (plain_up sent)) bin near_body) in
+      let table = near_carrier bin lt sent sent_within in
+      record {
+        re = part_back bound y.re f.re p.re (sent bin).re near_sum.re noise.re table.re;
+        im = part_back bound y.im f.im p.im (sent bin).im near_sum.im noise.im table.im;
+      }

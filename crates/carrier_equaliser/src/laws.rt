@@ -10,9 +10,6 @@ ghost use Rattle.plain_waves.specs.Bodies.{all_times, plain_body};
 ghost use Rattle.plain_waves.specs.Nearness.{AreNearPlain};
 ghost use Rattle.carrier_equaliser.specs.Nearness.{AreNearPlainSums};
 
-use butterfly64::laws::plain_sums_undone;
-use fixed_complex::laws::size_of_a_turn;
-
 /// Carriers that were sent come back times 32. Where the 64 samples of a body are within a bound B of the plain body of
 /// carriers with components of at most 954, and received carriers are within 40 of the plain sums of these samples, as
 /// those of `carriers_of` are, each is near 32 times the one that was sent: the difference is at most 91*B + 70 in
@@ -26,7 +23,4 @@ pub fn sent_carriers_come_back()
         → ((bin : ℕ) → IsWithin 954 (sent bin)) → AreNearPlain bound body (all_times (plain_body sent))
         → AreNearPlainSums 40 carriers body → (bin : ℕ) → bin < 64
         → IsWithin (91 * bound + 49) (minus (entry carriers bin) (multiple (pos 32) (sent bin))) }
-{
-    plain_sums_undone();
-    size_of_a_turn();
-}
+{}

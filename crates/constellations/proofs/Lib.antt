@@ -4,3 +4,4 @@ pub mod Counting
 pub mod Levels
 pub mod Nearness
 pub mod Backs
+pub mod AxisSizes

@@ -55,9 +55,4 @@ pub fn sent_frames()
     ensures near { (rate : Rate) (seed : ℕ) (psdu : List ℕ)
         → AreNearPlain 1 (sent_frame rate seed psdu) (plain_frame rate seed psdu) }
     ensures within { (rate : Rate) (seed : ℕ) (psdu : List ℕ) → SamplesWithin 25057 (sent_frame rate seed psdu) }
-{
-    training_fields::laws::sent_preamble();
-    training_fields::laws::samples_behind_samples();
-    symbol_builder::laws::sent_symbols();
-    symbol_builder::laws::sizes_of_points();
-}
+{}

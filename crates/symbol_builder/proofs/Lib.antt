@@ -4,3 +4,4 @@ pub mod Bins
 pub mod Pilots
 pub mod SymbolSizes
 pub mod PointSizes
+pub mod SentSymbols

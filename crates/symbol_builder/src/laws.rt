@@ -39,9 +39,7 @@ pub fn bins_of_a_symbol()
 pub fn sizes_of_points()
     ensures { (modulation : Modulation) (bits : List ℕ) → AreBits bits
         → 48 * bits_of_modulation modulation ≤ length bits → PairsWithin 700 (points_of modulation bits) }
-{
-    constellations::laws::sizes_of_axes();
-}
+{}
 
 /// The sent samples of symbol n, of any points with components of at most 700, are within 1 of the plain ones, and no
 /// component is larger than 25057 in size (own).
@@ -50,6 +48,4 @@ pub fn sent_symbols()
         → AreNearPlain 1 (sent_symbol points n) (plain_symbol points n) }
     ensures within { (points : List Cx) (n : ℕ) → PairsWithin 700 points
         → SamplesWithin 25057 (sent_symbol points n) }
-{
-    plain_waves::laws::sent_bodies();
-}
+{}
