@@ -1,5 +1,8 @@
+pub mod Decided
 pub mod Digits
+pub mod Lines
 pub mod Marks
+pub mod Names
 pub mod Pairs
 pub mod Places
 pub mod Series

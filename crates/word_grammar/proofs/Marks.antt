@@ -48,8 +48,8 @@ pub bare_append : (mark : ℕ) (front rest : List ℕ) → HasNo mark front → 
 bare_append mark [] rest h k = k
 bare_append mark (x ∷ front) rest h k = (h.0, bare_append mark front rest h.1 k)
 
-same_lists_from : (x y : ℕ) (a b : List ℕ) → x ≡ y → a ≡ b → x ∷ a ≡ y ∷ b
-same_lists_from x y a b e f = ap (λ z. z ∷ a) e ∙ ap (λ r. y ∷ r) f
+pub same_cons : (x y : ℕ) (a b : List ℕ) → x ≡ y → a ≡ b → x ∷ a ≡ y ∷ b
+same_cons x y a b e f = ap (λ z. z ∷ a) e ∙ ap (λ r. y ∷ r) f
 
 -- the first mark tells a word and what stands behind it apart
 pub seam : (mark : ℕ) (a b s t : List ℕ) → HasNo mark a → HasNo mark b → a ++ mark ∷ s ≡ b ++ mark ∷ t → (a ≡ b) × (s ≡ t)
@@ -59,7 +59,7 @@ seam mark (x ∷ a) [] s t p q e = absurd (p.0 (ap (λ x. get_or x 0 0) e))
 seam mark (x ∷ a) (y ∷ b) s t p q e =
     let first : x ≡ y = ap (λ x. get_or x 0 0) e in
     let more = seam mark a b s t p.1 q.1 (ap (drop 1) e) in
-    (same_lists_from x y a b first more.0, more.1)
+    (same_cons x y a b first more.0, more.1)
 
 -- a front with no mark is one of the word
 pub front_of_word : (mark : ℕ) (front behind word rest : List ℕ) → HasNo mark front → front ++ behind ≡ word ++ mark ∷ rest → (more : List ℕ) × (word ≡ front ++ more) × (behind ≡ more ++ mark ∷ rest)
@@ -68,7 +68,7 @@ front_of_word mark (x ∷ front) behind [] rest h e = absurd (h.0 (ap (λ x. get
 front_of_word mark (x ∷ front) behind (y ∷ word) rest h e =
     let first : x ≡ y = ap (λ x. get_or x 0 0) e in
     let of = front_of_word mark front behind word rest h.1 (ap (drop 1) e) in
-    (of.0, same_lists_from y x word (front ++ of.0) (sym first) of.1, of.2)
+    (of.0, same_cons y x word (front ++ of.0) (sym first) of.1, of.2)
 
 -- where a text goes on behind its first word, the mark stands there
 pub whole_at : (mark : ℕ) (text : List ℕ) (end : ℕ) → IsWordEnd mark text end → end < length text → text ≡ take end text ++ mark ∷ drop (end + 1) text
@@ -82,3 +82,9 @@ whole_at mark text end h l =
 -- what stands behind a text's first word
 pub tail_of : (mark : ℕ) (text : List ℕ) (end : ℕ) → IsWordEnd mark text end → (drop end text ≡ []) ⊎ ((rest : List ℕ) × (drop end text ≡ mark ∷ rest))
 tail_of mark text end w = elim w.behind [ inl none ↦ inl none | inr e ↦ inr (drop (end + 1) text, e) ]
+
+-- each text has a first word
+pub end_of : (mark : ℕ) (text : List ℕ) → (end : ℕ) × IsWordEnd mark text end
+end_of mark text =
+    let end : ℕ = position_or_len (λ byte. byte == mark) text in
+    (end, word_ends mark text end refl (prefix_len-le-length (λ byte. not (byte == mark)) text))
