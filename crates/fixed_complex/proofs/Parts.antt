@@ -1,7 +1,6 @@
 -- Sums and differences of products, as the code computes them in 64 bits.
 use Rattle.std.proofs.Common.{◌≡◌, ◌^◌, ◌≤◌, ℤ, ◌+ℤ◌, ◌-ℤ◌, ◌*ℤ◌, ◌∙◌, ap, arith, w64, to_z, of_z, unsigned_abs, FitsSigned}
 use Rattle.std.proofs.lemmas.Int.{ints}
-use Rattle.fixed_complex.specs.declared.Cx.{Cx}
 use Rattle.fixed_complex.specs.Rounding.{half_up}
 
 -- a number that went through 64 bits

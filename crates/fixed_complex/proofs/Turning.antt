@@ -1,10 +1,7 @@
 -- A turn depends on its place modulo 64 alone.
-use Rattle.std.proofs.Common.{◌≡◌, ℕ, ◌+◌, ◌*◌, ◌%◌, ◌∙◌, ap, sym, arith, zero, suc, refl}
+use Rattle.std.proofs.Common.{◌≡◌, ℕ, ◌+◌, ◌*◌, ◌%◌, ◌∙◌, ap, sym, arith, refl}
 use Rattle.std.proofs.lemmas.Nat.{mul-mod}
-use Rattle.fixed_complex.specs.declared.Cx.{Cx}
 use Rattle.fixed_complex.specs.Turns.{turn_at, cosine_at}
-use Rattle.fixed_complex.specs.Laws.{sum_below}
-use Rattle.fixed_complex.specs.Pairs.{plus}
 use Rattle.fixed_complex.proofs.Pairs.{same_parts}
 
 same_cosine : (m n : ℕ) → m % 64 ≡ n % 64 → cosine_at m ≡ cosine_at n

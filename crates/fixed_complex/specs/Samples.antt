@@ -1,5 +1,5 @@
 -- Samples, samples as pairs, and bounds on samples (own).
-use Rattle.std.specs.Prelude.{ℕ, ◌<◌, ◌≤◌, List, length, slice_index_or, ℤ, pos, unsigned_abs, FitsSigned, All}
+use Rattle.std.specs.Prelude.{ℕ, ◌<◌, ◌≤◌, List, length, slice_index_or, pos, unsigned_abs, FitsSigned, All}
 use Rattle.std.specs.Int.{w16}
 use Rattle.fixed_complex.specs.declared.Cx.{Cx}
 use Rattle.fixed_complex.specs.declared.Sample.{Sample}

@@ -8,7 +8,8 @@ use borrow.Rule.Simd.Lanes.{act1, act2, Asks1, Asks2}
 use borrow.Table.Row.{s_int}
 use mir.Syntax.{add, cast, mask, lt, signed, w16}
 use Rattle.lane_kernels.specs.Kernels.{held}
-use Rattle.lane_kernels.specs.Lanes.{AreOf16Bits, IsOf16Bits, eight, number_at}
+use Rattle.lane_kernels.specs.Lanes.{AreOf16Bits, eight}
+use Rattle.fixed_complex.specs.Numbers.{number_at}
 use Rattle.lane_kernels.proofs.LaneSums.{eight_of}
 
 -- the bits of numbers in lanes of 32 bits, of their sums, and of these held from above and from below
@@ -64,7 +65,7 @@ held-fits v = omega (arith, ints, clamps)
 abbrev sum_lane : ℤ → ℤ → ℕ
 sum_lane a b = of_z w32 (to_z w32 (of_z w32 (to_z w16 (of_z w16 a))) +ℤ to_z w32 (of_z w32 (to_z w16 (of_z w16 b))))
 
-sum_lane-is : (a b : ℤ) → IsOf16Bits a → IsOf16Bits b → to_z w32 (sum_lane a b) ≡ a +ℤ b
+sum_lane-is : (a b : ℤ) → FitsSigned w16 a → FitsSigned w16 b → to_z w32 (sum_lane a b) ≡ a +ℤ b
 sum_lane-is a b h k = omega (arith, ints)
 
 pub sums_fit : (x y : List ℤ) → AreOf16Bits x → AreOf16Bits y → Each2 (Asks2 (add signed) (s_int w32) (s_int w32)) (wide x) (wide y)

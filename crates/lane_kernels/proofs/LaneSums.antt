@@ -5,7 +5,8 @@ use Rattle.std.specs.Simd.Lanes.{zip2, Each2}
 use Rattle.std.proofs.lemmas.Int.{ints, to_z-of_z, fits_signed_from_abs, unsigned_abs-mul}
 use borrow.Rule.Simd.Lanes.{Asks2, act2}
 use borrow.Table.Row.{s_int}
-use Rattle.lane_kernels.specs.Lanes.{AreWithin, eight, number_at}
+use Rattle.lane_kernels.specs.Lanes.{eight}
+use Rattle.fixed_complex.specs.Numbers.{NumbersWithin, number_at}
 use Rattle.std.proofs.Math.Nat.{mul-le-mul}
 use mir.Syntax.{w16, mul, add, sub, signed}
 
@@ -59,7 +60,7 @@ bits_of = map (of_z w64)
 abbrev times_lanes : List ℕ → List ℕ → List ℕ
 times_lanes = zip2 (act2 (mul signed) (s_int w64) (s_int w64) (s_int w64))
 
-pub products_fit : (x y : List ℤ) → AreWithin (2 ^ 15) x → AreWithin (2 ^ 15) y → Each2 (Asks2 (mul signed) (s_int w64) (s_int w64)) (bits_of x) (bits_of y)
+pub products_fit : (x y : List ℤ) → NumbersWithin (2 ^ 15) x → NumbersWithin (2 ^ 15) y → Each2 (Asks2 (mul signed) (s_int w64) (s_int w64)) (bits_of x) (bits_of y)
 products_fit [] y h k = tt
 products_fit (a ∷ x) [] h k = tt
 products_fit (a ∷ x) (b ∷ y) h k =
@@ -67,7 +68,7 @@ products_fit (a ∷ x) (b ∷ y) h k =
     rw (product_kept a b (h 0) (k 0)) (fits_signed_from_abs w64 (a *ℤ b) (omega (arith, product-le a b (h 0) (k 0)))) in
     (here, products_fit x y (λ n. h (suc n)) (λ n. k (suc n)))
 
-pub sums_fit : (sums x y : List ℤ) → AreWithin (2 ^ 62) sums → AreWithin (2 ^ 15) x → AreWithin (2 ^ 15) y → Each2 (Asks2 (add signed) (s_int w64) (s_int w64)) (bits_of sums) (times_lanes (bits_of x) (bits_of y))
+pub sums_fit : (sums x y : List ℤ) → NumbersWithin (2 ^ 62) sums → NumbersWithin (2 ^ 15) x → NumbersWithin (2 ^ 15) y → Each2 (Asks2 (add signed) (s_int w64) (s_int w64)) (bits_of sums) (times_lanes (bits_of x) (bits_of y))
 sums_fit [] x y g h k = tt
 sums_fit (s ∷ sums) [] y g h k = tt
 sums_fit (s ∷ sums) (a ∷ x) [] g h k = tt
@@ -77,7 +78,7 @@ sums_fit (s ∷ sums) (a ∷ x) (b ∷ y) g h k =
     (fits_signed_from_abs w64 (s +ℤ a *ℤ b) (omega (arith, ints, g 0, product-le a b (h 0) (k 0)))) in
     (here, sums_fit sums x y (λ n. g (suc n)) (λ n. h (suc n)) (λ n. k (suc n)))
 
-pub sums_are : (sums x y : List ℤ) → AreWithin (2 ^ 62) sums → AreWithin (2 ^ 15) x → AreWithin (2 ^ 15) y → map (to_z w64) (zip2 (act2 (add signed) (s_int w64) (s_int w64) (s_int w64)) (bits_of sums) (times_lanes (bits_of x) (bits_of y))) ≡ zip2 ◌+ℤ◌ sums (zip2 ◌*ℤ◌ x y)
+pub sums_are : (sums x y : List ℤ) → NumbersWithin (2 ^ 62) sums → NumbersWithin (2 ^ 15) x → NumbersWithin (2 ^ 15) y → map (to_z w64) (zip2 (act2 (add signed) (s_int w64) (s_int w64) (s_int w64)) (bits_of sums) (times_lanes (bits_of x) (bits_of y))) ≡ zip2 ◌+ℤ◌ sums (zip2 ◌*ℤ◌ x y)
 sums_are [] x y g h k = refl
 sums_are (s ∷ sums) [] y g h k = refl
 sums_are (s ∷ sums) (a ∷ x) [] g h k = refl
@@ -89,7 +90,7 @@ sums_are (s ∷ sums) (a ∷ x) (b ∷ y) g h k =
     (to_z-of_z w64 (s +ℤ a *ℤ b) fits) in
     cc
 
-pub differences_fit : (sums x y : List ℤ) → AreWithin (2 ^ 62) sums → AreWithin (2 ^ 15) x → AreWithin (2 ^ 15) y → Each2 (Asks2 (sub signed) (s_int w64) (s_int w64)) (bits_of sums) (times_lanes (bits_of x) (bits_of y))
+pub differences_fit : (sums x y : List ℤ) → NumbersWithin (2 ^ 62) sums → NumbersWithin (2 ^ 15) x → NumbersWithin (2 ^ 15) y → Each2 (Asks2 (sub signed) (s_int w64) (s_int w64)) (bits_of sums) (times_lanes (bits_of x) (bits_of y))
 differences_fit [] x y g h k = tt
 differences_fit (s ∷ sums) [] y g h k = tt
 differences_fit (s ∷ sums) (a ∷ x) [] g h k = tt
@@ -99,7 +100,7 @@ differences_fit (s ∷ sums) (a ∷ x) (b ∷ y) g h k =
     (fits_signed_from_abs w64 (s -ℤ a *ℤ b) (omega (arith, ints, g 0, product-le a b (h 0) (k 0)))) in
     (here, differences_fit sums x y (λ n. g (suc n)) (λ n. h (suc n)) (λ n. k (suc n)))
 
-pub differences_are : (sums x y : List ℤ) → AreWithin (2 ^ 62) sums → AreWithin (2 ^ 15) x → AreWithin (2 ^ 15) y → map (to_z w64) (zip2 (act2 (sub signed) (s_int w64) (s_int w64) (s_int w64)) (bits_of sums) (times_lanes (bits_of x) (bits_of y))) ≡ zip2 ◌-ℤ◌ sums (zip2 ◌*ℤ◌ x y)
+pub differences_are : (sums x y : List ℤ) → NumbersWithin (2 ^ 62) sums → NumbersWithin (2 ^ 15) x → NumbersWithin (2 ^ 15) y → map (to_z w64) (zip2 (act2 (sub signed) (s_int w64) (s_int w64) (s_int w64)) (bits_of sums) (times_lanes (bits_of x) (bits_of y))) ≡ zip2 ◌-ℤ◌ sums (zip2 ◌*ℤ◌ x y)
 differences_are [] x y g h k = refl
 differences_are (s ∷ sums) [] y g h k = refl
 differences_are (s ∷ sums) (a ∷ x) [] g h k = refl

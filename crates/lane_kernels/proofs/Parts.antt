@@ -4,7 +4,7 @@ use Rattle.std.proofs.lemmas.Int.{ints}
 use Rattle.integer_laws.proofs.Products.{*ℤ-neg_ℤ}
 use Rattle.fixed_complex.specs.declared.Sample.{Sample}
 use Rattle.fixed_complex.specs.declared.Cx.{Cx}
-use Rattle.fixed_complex.specs.Pairs.{IsWithin, conjugate, times}
+use Rattle.fixed_complex.specs.Pairs.{IsWithin, times}
 use Rattle.lane_kernels.proofs.LaneSums.{product-le}
 use Rattle.lane_kernels.specs.Kernels.{product_of}
 

@@ -7,7 +7,8 @@ use Rattle.std.proofs.lemmas.Int.{ints, clamps, to_z-of_z}
 use Rattle.std.proofs.lemmas.List.{ext_get_or}
 use Rattle.fixed_complex.specs.declared.Sample.{Sample}
 use Rattle.lane_kernels.specs.Kernels.{held, held_sum, held_sums}
-use Rattle.lane_kernels.specs.Lanes.{HoldsSums, eight, number_at}
+use Rattle.lane_kernels.specs.Lanes.{HoldsSums, eight}
+use Rattle.fixed_complex.specs.Numbers.{number_at}
 use Rattle.fixed_complex.specs.Samples.{sample_at}
 use Rattle.lane_kernels.proofs.Holding.{held-fits}
 use Rattle.lane_kernels.proofs.Totals.{eight-at}

@@ -2,7 +2,8 @@
 use Rattle.std.proofs.Common.{◌≡◌, ℕ, zero, suc, ◌+◌, ◌^◌, ◌<◌, ◌≤◌, List, length, ℤ, pos, ◌+ℤ◌, ◌-ℤ◌, ◌*ℤ◌, refl, ap, arith}
 use Rattle.std.specs.Prelude.{unsigned_abs}
 use Rattle.std.proofs.lemmas.Int.{ints}
-use Rattle.lane_kernels.specs.Lanes.{AreWithin, eight, number_at, total_below, total_of}
+use Rattle.lane_kernels.specs.Lanes.{eight, total_below, total_of}
+use Rattle.fixed_complex.specs.Numbers.{NumbersWithin, number_at}
 use Rattle.lane_kernels.proofs.LaneSums.{eight_of, product-le}
 
 -- eight entries are the same where each of them is
@@ -37,17 +38,17 @@ eight-at f (suc (suc (suc (suc (suc (suc (suc zero))))))) h = refl
 eight-at f (suc (suc (suc (suc (suc (suc (suc (suc n)))))))) h = absurd (omega arith)
 
 -- so they are within a bound where each of them is
-pub eight-within : (f : ℕ → ℤ) (bound : ℕ) → ((n : ℕ) → n < 8 → unsigned_abs (f n) ≤ bound) → AreWithin bound (eight f)
+pub eight-within : (f : ℕ → ℤ) (bound : ℕ) → ((n : ℕ) → n < 8 → unsigned_abs (f n) ≤ bound) → NumbersWithin bound (eight f)
 eight-within f bound h =
     eight-each (λ z. unsigned_abs z ≤ bound) f (h 0 (omega arith)) (h 1 (omega arith)) (h 2 (omega arith)) (h 3 (omega arith)) (h 4 (omega arith)) (h 5 (omega arith)) (h 6 (omega arith)) (h 7 (omega arith)) (omega arith)
 
 -- a product more or less, in each lane
-pub grown : (sums x y new : List ℤ) (bound : ℕ) → new ≡ eight (λ n. number_at sums n +ℤ number_at x n *ℤ number_at y n) → AreWithin bound sums → AreWithin (2 ^ 15) x → AreWithin (2 ^ 15) y → AreWithin (bound + 2 ^ 30) new
+pub grown : (sums x y new : List ℤ) (bound : ℕ) → new ≡ eight (λ n. number_at sums n +ℤ number_at x n *ℤ number_at y n) → NumbersWithin bound sums → NumbersWithin (2 ^ 15) x → NumbersWithin (2 ^ 15) y → NumbersWithin (bound + 2 ^ 30) new
 grown sums x y new bound is g h k =
     rw is (eight-within (λ n. number_at sums n +ℤ number_at x n *ℤ number_at y n) (bound + 2 ^ 30)
     (λ n _. omega (arith, ints, g n, product-le (number_at x n) (number_at y n) (h n) (k n))))
 
-pub grown_less : (sums x y new : List ℤ) (bound : ℕ) → new ≡ eight (λ n. number_at sums n -ℤ number_at x n *ℤ number_at y n) → AreWithin bound sums → AreWithin (2 ^ 15) x → AreWithin (2 ^ 15) y → AreWithin (bound + 2 ^ 30) new
+pub grown_less : (sums x y new : List ℤ) (bound : ℕ) → new ≡ eight (λ n. number_at sums n -ℤ number_at x n *ℤ number_at y n) → NumbersWithin bound sums → NumbersWithin (2 ^ 15) x → NumbersWithin (2 ^ 15) y → NumbersWithin (bound + 2 ^ 30) new
 grown_less sums x y new bound is g h k =
     rw is (eight-within (λ n. number_at sums n -ℤ number_at x n *ℤ number_at y n) (bound + 2 ^ 30)
     (λ n _. omega (arith, ints, g n, product-le (number_at x n) (number_at y n) (h n) (k n))))

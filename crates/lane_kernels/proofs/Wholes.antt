@@ -5,7 +5,8 @@ use Rattle.std.proofs.lemmas.Int.{ints}
 use Rattle.std.proofs.lemmas.Simd.{get_or-chunk}
 use Rattle.fixed_complex.specs.declared.Sample.{Sample}
 use Rattle.lane_kernels.specs.Kernels.{dot_of, energy_of, power_of, product_of}
-use Rattle.lane_kernels.specs.Lanes.{AreWithin, eight, total_below, total_of}
+use Rattle.lane_kernels.specs.Lanes.{eight, total_below, total_of}
+use Rattle.fixed_complex.specs.Numbers.{NumbersWithin}
 use Rattle.fixed_complex.specs.Samples.{sample_at}
 use Rattle.lane_kernels.proofs.Totals.{eight-within}
 
@@ -14,7 +15,7 @@ pub none_yet : (f : ℕ → ℤ) → total_of (eight (λ _. pos 0)) ≡ total_be
 unfolding total_below
 none_yet f = refl
 
-pub none_within : (bound : ℕ) → AreWithin bound (eight (λ _. pos 0))
+pub none_within : (bound : ℕ) → NumbersWithin bound (eight (λ _. pos 0))
 none_within bound = eight-within (λ _. pos 0) bound (λ n _. omega arith)
 
 -- the samples of a chunk

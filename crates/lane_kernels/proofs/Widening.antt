@@ -8,17 +8,15 @@ use Rattle.std.proofs.lemmas.Bool.Decides.{nat_tests}
 use borrow.Rule.Simd.Lanes.{act1, act2}
 use borrow.Table.Row.{s_int}
 use mir.Syntax.{cast, mask, lt, signed, w16}
-use Rattle.lane_kernels.specs.Lanes.{AreOf16Bits, AreWithin, IsOf16Bits, number_at}
+use Rattle.lane_kernels.specs.Lanes.{AreOf16Bits}
+use Rattle.fixed_complex.specs.Numbers.{NumbersWithin, number_at}
 
 -- a number of 16 bits, as the code passes it on
 abbrev pub component : ℤ → ℤ
 component z = to_z w16 (of_z w16 z)
 
-pub of_16_bits : (z : ℤ) → FitsSigned w16 z → IsOf16Bits z
-of_16_bits z h = record { least = omega (arith, ints); most = omega (arith, ints) }
-
-pub component_of_16_bits : (z : ℤ) → FitsSigned w16 z → IsOf16Bits (component z)
-component_of_16_bits z h = record { least = omega (arith, ints); most = omega (arith, ints) }
+pub component_of_16_bits : (z : ℤ) → FitsSigned w16 z → FitsSigned w16 (component z)
+component_of_16_bits z h = omega (arith, ints)
 
 -- wider lanes hold the same numbers
 pub widened-is : (xs : List ℤ) → AreOf16Bits xs → map (to_z w64) (map (act1 (cast signed signed w64) (s_int w16) (s_int w64)) (map (of_z w16) xs)) ≡ xs
@@ -29,7 +27,7 @@ widened-is (x ∷ xs) h =
     let here : to_z w64 (of_z w64 (to_z w16 (of_z w16 x))) ≡ x = omega (arith, ints) in
     cc
 
-pub within-16_bits : (xs : List ℤ) → AreOf16Bits xs → AreWithin (2 ^ 15) xs
+pub within-16_bits : (xs : List ℤ) → AreOf16Bits xs → NumbersWithin (2 ^ 15) xs
 within-16_bits xs h = λ n. let fits = h n in omega (arith, ints)
 
 -- no bit of a mask is set

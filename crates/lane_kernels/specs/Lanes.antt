@@ -1,29 +1,18 @@
 -- Lists as the lanes read them, and sums by place (own).
-use Rattle.std.specs.Prelude.{◌≡◌, ℕ, zero, suc, ◌<◌, ◌≤◌, List, [], ◌∷◌, slice_index_or, fold, ℤ, pos, neg_ℤ, ◌+ℤ◌, ◌≤ℤ◌, unsigned_abs}
+use Rattle.std.specs.Prelude.{◌≡◌, ℕ, zero, suc, ◌<◌, ◌≤◌, List, [], ◌∷◌, fold, ℤ, pos, ◌+ℤ◌, FitsSigned}
 use Rattle.fixed_complex.specs.declared.Sample.{Sample}
 use Rattle.lane_kernels.specs.Kernels.{held_sum}
 use Rattle.fixed_complex.specs.Samples.{sample_at}
-
--- the number at a place of a list, and 0 past its end
-abbrev pub number_at : List ℤ → ℕ → ℤ
-number_at numbers n = slice_index_or numbers n (pos 0)
+use Rattle.fixed_complex.specs.Numbers.{number_at}
+use Rattle.std.specs.Int.{w16}
 
 -- one entry for each of eight lanes
 abbrev pub eight : {X : Type 0} → (ℕ → X) → List X
 eight f = f 0 ∷ f 1 ∷ f 2 ∷ f 3 ∷ f 4 ∷ f 5 ∷ f 6 ∷ f 7 ∷ []
 
--- each number is at most so large in size
-abbrev pub AreWithin : ℕ → List ℤ → Type 0
-AreWithin bound numbers = (n : ℕ) → unsigned_abs (number_at numbers n) ≤ bound
-
--- a signed number of 16 bits
-pub record IsOf16Bits (number : ℤ) : Type 0 where
-  pub least : neg_ℤ (pos 32768) ≤ℤ number
-  pub most : number ≤ℤ pos 32767
-
--- each number is one of 16 bits
+-- each number is a signed one of 16 bits
 abbrev pub AreOf16Bits : List ℤ → Type 0
-AreOf16Bits numbers = (n : ℕ) → IsOf16Bits (number_at numbers n)
+AreOf16Bits numbers = (n : ℕ) → FitsSigned w16 (number_at numbers n)
 
 -- the sum of a list
 abbrev pub total_of : List ℤ → ℤ

@@ -1,0 +1,79 @@
+//! Sums of samples that are held within 16 bits.
+ghost use Rattle.std.specs.Prelude.{◌≡◌, ◌+◌, ◌*◌, ◌/◌, ◌^◌, ◌<◌, ◌≤◌, length, ℤ, ◌+ℤ◌};
+ghost use Rattle.lane_kernels.specs.Kernels.{held, held_sum, held_sums};
+ghost use Rattle.lane_kernels.specs.Lanes.{AreOf16Bits, HoldsSums, eight};
+ghost use Rattle.fixed_complex.specs.Numbers.{number_at};
+
+use crate::lanes::{i_components, q_components};
+use fixed_complex::Sample;
+use std::simd::prelude::*;
+
+/// Adds `b`'s samples to `a`'s, each component held within -32768 to 32767. The slices are equally long, at most 2^24
+/// samples (own).
+pub fn add_saturating(a: &mut [Sample], b: &[Sample])
+    requires short { length a.old ≤ 2 ^ 24 }
+    requires long { length a.old ≡ length b.now }
+    ensures { a.new ≡ held_sums a.old b.now }
+{
+    let whole = a.len() / 8;
+    for k in 0..whole {
+        add_eight(a, b, 8 * k);
+    }
+    add_rest(a, b, 8 * whole);
+}
+
+// Adds the samples from a place on.
+fn add_rest(a: &mut [Sample], b: &[Sample], from: usize)
+    requires within { from ≤ length a.old }
+    requires long { length a.old ≡ length b.now }
+    ensures sums { HoldsSums from (length a.old) a.old b.now a.new }
+    ensures len { length a.new ≡ length a.old }
+{
+    for n in from..a.len() {
+        a[n] = held_sum(a[n], b[n]);
+    }
+}
+
+// The sum of two samples, each component held.
+fn held_sum(a: Sample, b: Sample) -> Sample
+    ensures { result ≡ held_sum a b }
+{
+    Sample {
+        i: a.i.saturating_add(b.i),
+        q: a.q.saturating_add(b.q),
+    }
+}
+
+// Adds eight samples from a place on.
+#[inline(always)]
+fn add_eight(a: &mut [Sample], b: &[Sample], at: usize)
+    requires within { at + 8 ≤ length a.old }
+    requires long { length a.old ≡ length b.now }
+    ensures sums { HoldsSums at (at + 8) a.old b.now a.new }
+    ensures len { length a.new ≡ length a.old }
+{
+    let i = add_lanes(i_components(&a[at..at + 8]), i_components(&b[at..at + 8]));
+    let q = add_lanes(q_components(&a[at..at + 8]), q_components(&b[at..at + 8]));
+    for n in 0..8 {
+        a[at + n] = Sample { i: i[n], q: q[n] };
+    }
+}
+
+// The sums of eight numbers, each held within 16 bits.
+#[inline(always)]
+fn add_lanes(x: [i16; 8], y: [i16; 8]) -> [i16; 8]
+    requires x { AreOf16Bits x }
+    requires y { AreOf16Bits y }
+    ensures { result ≡ eight (λ n. held (number_at x n +ℤ number_at y n)) }
+{
+    let (x, y) = (
+        i16x8::from_array(x).cast::<i32>(),
+        i16x8::from_array(y).cast::<i32>(),
+    );
+    let (least, most) = (i32x8::splat(-32768), i32x8::splat(32767));
+    x.strict_add(y)
+        .simd_min(most)
+        .simd_max(least)
+        .cast::<i16>()
+        .to_array()
+}
