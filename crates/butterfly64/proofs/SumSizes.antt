@@ -1,15 +1,9 @@
 -- The sizes of the staged sums of a list.
-use Rattle.std.proofs.Common.{◌≡◌, ℕ, ◌+◌, ◌-◌, ◌*◌, ◌^◌, ◌<◌, ◌≤◌, List, length, sym, ◌∙◌, arith, inl, inr, map}
-use Rattle.std.specs.List.{range_with_len}
-use Rattle.std.proofs.lemmas.Bool.{cases_lt}
-use Rattle.std.proofs.lemmas.List.{get_or_past, ext_get_or}
-use Rattle.std.proofs.lemmas.List.FromFn.{get_or-map-range_with_len, length-map-range_with_len}
+use Rattle.std.proofs.Common.{ℕ, ◌+◌, ◌-◌, ◌*◌, ◌^◌, ◌≤◌, List, arith}
 use Rattle.fixed_complex.specs.declared.Cx.{Cx}
-use Rattle.fixed_complex.specs.Pairs.{IsOfSize, zero_pair}
-use Rattle.integer_laws.proofs.Order.{pos-le}
 use Rattle.butterfly64.specs.StagedSums.{up_at, down_at, up_sums, down_sums}
 use Rattle.fixed_complex.specs.PairLists.{entry, PairsWithin, PairsOfSize}
-use Rattle.fixed_complex.proofs.PairSizes.{wider, within-size, size-within}
+use Rattle.fixed_complex.proofs.PairSizes.{wider, within-size}
 use Rattle.butterfly64.proofs.StagedSizes.{grown_by, size-up_at, size-down_at, six_joins}
 use Rattle.fixed_complex.proofs.PairLists.{entry-map, everywhere_of_size, of_size-within}
 

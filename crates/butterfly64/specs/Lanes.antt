@@ -1,22 +1,15 @@
 -- Eight pairs in lanes, and lists of them (own).
-use Rattle.std.specs.Prelude.{ℕ, ◌+◌, ◌*◌, ◌/◌, ◌%◌, ◌^◌, ◌<◌, ◌≤◌, Bool, nat_lt, if◌then◌else◌, List, [], ◌∷◌, ◌++◌, map, ℤ, pos, slice_index_or, unsigned_abs}
+use Rattle.std.specs.Prelude.{ℕ, ◌+◌, ◌*◌, ◌/◌, ◌%◌, ◌^◌, ◌<◌, Bool, nat_lt, if◌then◌else◌, List, [], ◌∷◌, ◌++◌, map, slice_index_or}
 use Rattle.std.specs.List.{range_with_len}
 use Rattle.fixed_complex.specs.declared.Cx.{Cx}
 use Rattle.fixed_complex.specs.Pairs.{IsWithin, IsOfSize, plus, minus, conjugate, scaled_product}
 use Rattle.butterfly64.specs.StagedSums.{stage_turn}
 use Rattle.butterfly64.specs.declared.lanes.Eight.{Eight}
-
--- the number in a lane
-abbrev pub number : List ℤ → ℕ → ℤ
-number xs l = slice_index_or xs l (pos 0)
-
--- the number in each of eight lanes is at most so large in size
-pub record LanesWithin (bound : ℕ) (xs : List ℤ) : Type 0 where
-  pub each : (l : ℕ) → l < 8 → unsigned_abs (number xs l) ≤ bound
+use Rattle.fixed_complex.specs.Numbers.{number_at}
 
 -- the pair in a lane
 abbrev pub lane : Eight → ℕ → Cx
-lane x l = record { re = number x.re l; im = number x.im l }
+lane x l = record { re = number_at x.re l; im = number_at x.im l }
 
 -- the pairs of a list of eights, in order
 unfoldable pub pairs_of : List Eight → List Cx

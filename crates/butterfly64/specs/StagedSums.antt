@@ -1,8 +1,8 @@
 -- Staged sums of 1, 2, 4, 8, 16, 32 or 64 pairs: the sums of a turn, rounded at each join of two halves (own).
-use Rattle.std.specs.Prelude.{ℕ, zero, suc, ◌+◌, ◌-◌, ◌*◌, ◌/◌, ◌%◌, ◌^◌, List, map, nat_eq, nat_lt, slice_index_or, if◌then◌else◌}
+use Rattle.std.specs.Prelude.{ℕ, zero, suc, ◌+◌, ◌-◌, ◌*◌, ◌/◌, ◌%◌, ◌^◌, List, map, nat_eq, nat_lt, if◌then◌else◌}
 use Rattle.std.specs.List.{range_with_len}
 use Rattle.fixed_complex.specs.declared.Cx.{Cx}
-use Rattle.fixed_complex.specs.Pairs.{zero_pair, plus, minus, conjugate, scaled_product}
+use Rattle.fixed_complex.specs.Pairs.{plus, minus, conjugate, scaled_product}
 use Rattle.fixed_complex.specs.Turns.{turn_at}
 use Rattle.fixed_complex.specs.PairLists.{entry}
 

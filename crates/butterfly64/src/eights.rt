@@ -1,4 +1,4 @@
-// The stages of the transform within eight lanes.
+//! The stages of the transform within eight lanes.
 ghost use Rattle.std.specs.Prelude.{◌≡◌, ℕ, ◌*◌, ◌^◌, ◌<◌};
 ghost use Rattle.butterfly64.specs.Lanes.{lane, joined_at, parted_at, EachOfSize};
 ghost use Rattle.butterfly64.specs.MirrorOrder.{mirror_of};

@@ -1,4 +1,4 @@
-// The turns of the six stages, in lanes.
+//! The turns of the six stages, in lanes.
 use crate::lanes::Eight;
 
 // The turns of the stages 1, 2, 4, 8, 16 and 32 places apart: those of the first four stages stand in one eight each,

@@ -1,8 +1,9 @@
-// Eight numbers in lanes, and eight pairs.
+//! Eight numbers in lanes, and eight pairs.
 ghost use Rattle.std.specs.Prelude.{◌≡◌, ℕ, ◌+◌, ◌-◌, ◌^◌, ◌<◌, ◌+ℤ◌, ◌-ℤ◌, ◌*ℤ◌, if◌then◌else◌};
 ghost use Rattle.fixed_complex.specs.Pairs.{conjugate, plus, minus, scaled_product};
 ghost use Rattle.fixed_complex.specs.Rounding.{half_up};
-ghost use Rattle.butterfly64.specs.Lanes.{is_low, lane, low_place, number, EachWithin, LanesWithin};
+ghost use Rattle.butterfly64.specs.Lanes.{is_low, lane, low_place, EachWithin};
+ghost use Rattle.fixed_complex.specs.Numbers.{number_at, NumbersWithin};
 
 use std::simd::prelude::*;
 
@@ -16,9 +17,9 @@ pub(crate) struct Eight {
 // The sums of eight and eight numbers.
 #[inline(always)]
 fn sums(x: [i64; 8], y: [i64; 8]) -> [i64; 8]
-    requires x { LanesWithin (2 ^ 62 - 1) x }
-    requires y { LanesWithin (2 ^ 62 - 1) y }
-    ensures { (l : ℕ) → l < 8 → number result l ≡ number x l +ℤ number y l }
+    requires x { NumbersWithin (2 ^ 62 - 1) x }
+    requires y { NumbersWithin (2 ^ 62 - 1) y }
+    ensures { (l : ℕ) → l < 8 → number_at result l ≡ number_at x l +ℤ number_at y l }
 {
     i64x8::from_array(x)
         .strict_add(i64x8::from_array(y))
@@ -28,9 +29,9 @@ fn sums(x: [i64; 8], y: [i64; 8]) -> [i64; 8]
 // The differences of eight and eight numbers.
 #[inline(always)]
 fn differences(x: [i64; 8], y: [i64; 8]) -> [i64; 8]
-    requires x { LanesWithin (2 ^ 62 - 1) x }
-    requires y { LanesWithin (2 ^ 62 - 1) y }
-    ensures { (l : ℕ) → l < 8 → number result l ≡ number x l -ℤ number y l }
+    requires x { NumbersWithin (2 ^ 62 - 1) x }
+    requires y { NumbersWithin (2 ^ 62 - 1) y }
+    ensures { (l : ℕ) → l < 8 → number_at result l ≡ number_at x l -ℤ number_at y l }
 {
     i64x8::from_array(x)
         .strict_sub(i64x8::from_array(y))
@@ -40,10 +41,10 @@ fn differences(x: [i64; 8], y: [i64; 8]) -> [i64; 8]
 // The products of eight and eight numbers.
 #[inline(always)]
 fn products(x: [i64; 8], y: [i64; 8]) -> [i64; 8]
-    requires x { LanesWithin (2 ^ 20) x }
-    requires y { LanesWithin (2 ^ 40) y }
-    ensures value { (l : ℕ) → l < 8 → number result l ≡ number x l *ℤ number y l }
-    ensures bound { LanesWithin (2 ^ 60) result }
+    requires x { NumbersWithin (2 ^ 20) x }
+    requires y { NumbersWithin (2 ^ 40) y }
+    ensures value { (l : ℕ) → l < 8 → number_at result l ≡ number_at x l *ℤ number_at y l }
+    ensures bound { NumbersWithin (2 ^ 60) result }
 {
     i64x8::from_array(x)
         .strict_mul(i64x8::from_array(y))
@@ -53,9 +54,9 @@ fn products(x: [i64; 8], y: [i64; 8]) -> [i64; 8]
 // Eight numbers over 2^20, rounded half up.
 #[inline(always)]
 fn rounded(x: [i64; 8]) -> [i64; 8]
-    requires { LanesWithin (2 ^ 61) x }
-    ensures value { (l : ℕ) → l < 8 → number result l ≡ half_up 20 (number x l) }
-    ensures bound { LanesWithin (2 ^ 42) result }
+    requires { NumbersWithin (2 ^ 61) x }
+    ensures value { (l : ℕ) → l < 8 → number_at result l ≡ half_up 20 (number_at x l) }
+    ensures bound { NumbersWithin (2 ^ 42) result }
 {
     let halves = i64x8::splat(1 << 19);
     (i64x8::from_array(x).strict_add(halves) >> i64x8::splat(20)).to_array()
@@ -152,6 +153,7 @@ pub(crate) fn parted_lanes(first: &Eight, last: &Eight, turns: &Eight) -> (Eight
 }
 
 // The low and the high pair, in each lane, of two that stand one lane apart.
+// The places: lanes 0 and 1 join, 2 and 3, 4 and 5, 6 and 7, so both of them read the lower, and both the upper one.
 #[inline(always)]
 pub(crate) fn one_apart(x: &Eight) -> (Eight, Eight)
     requires { EachWithin (2 ^ 62 - 1) x.now }
@@ -171,6 +173,7 @@ pub(crate) fn one_apart(x: &Eight) -> (Eight, Eight)
 }
 
 // The pairs of two eights in turn, one lane at a time.
+// The places: a join's sums stay in the even lanes, from x, its differences in the odd ones, from y (lane l is 8 + l).
 #[inline(always)]
 pub(crate) fn mixed_by_one(x: &Eight, y: &Eight) -> Eight
     requires x { EachWithin (2 ^ 62 - 1) x.now }
@@ -186,6 +189,7 @@ pub(crate) fn mixed_by_one(x: &Eight, y: &Eight) -> Eight
 }
 
 // The low and the high pair, in each lane, of two that stand two lanes apart.
+// The places: lanes 0 and 2 join, 1 and 3, 4 and 6, 5 and 7, so both of them read the lower, and both the upper one.
 #[inline(always)]
 pub(crate) fn two_apart(x: &Eight) -> (Eight, Eight)
     requires { EachWithin (2 ^ 62 - 1) x.now }
@@ -205,6 +209,7 @@ pub(crate) fn two_apart(x: &Eight) -> (Eight, Eight)
 }
 
 // The pairs of two eights in turn, two lanes at a time.
+// The places: a join's sums stay in lanes 0, 1, 4, 5, from x, its differences in the others, from y (lane l is 8 + l).
 #[inline(always)]
 pub(crate) fn mixed_by_two(x: &Eight, y: &Eight) -> Eight
     requires x { EachWithin (2 ^ 62 - 1) x.now }
@@ -220,6 +225,7 @@ pub(crate) fn mixed_by_two(x: &Eight, y: &Eight) -> Eight
 }
 
 // The low and the high pair, in each lane, of two that stand four lanes apart.
+// The places: lanes 0 and 4 join, 1 and 5, 2 and 6, 3 and 7, so both of them read the lower, and both the upper one.
 #[inline(always)]
 pub(crate) fn four_apart(x: &Eight) -> (Eight, Eight)
     requires { EachWithin (2 ^ 62 - 1) x.now }
@@ -239,6 +245,7 @@ pub(crate) fn four_apart(x: &Eight) -> (Eight, Eight)
 }
 
 // The pairs of two eights in turn, four lanes at a time.
+// The places: a join's sums stay in the lower lanes, from x, its differences in the upper, from y (lane l is 8 + l).
 #[inline(always)]
 pub(crate) fn mixed_by_four(x: &Eight, y: &Eight) -> Eight
     requires x { EachWithin (2 ^ 62 - 1) x.now }

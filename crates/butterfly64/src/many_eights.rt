@@ -1,4 +1,4 @@
-// The stages of the transform over eights of pairs.
+//! The stages of the transform over eights of pairs.
 ghost use Rattle.std.specs.Prelude.{◌≡◌, ℕ, ◌+◌, ◌-◌, ◌*◌, ◌^◌, ◌<◌, ◌≤◌, length};
 ghost use Rattle.fixed_complex.specs.Pairs.{conjugate, minus, plus, scaled_product};
 ghost use Rattle.fixed_complex.specs.PairLists.{PairsOfSize, entry};

@@ -1,4 +1,4 @@
-// The transform in lanes beside the one without, and beside sums that were computed elsewhere.
+//! The transform in lanes beside the one without, and beside sums that were computed elsewhere.
 ghost use Rattle.std.specs.Prelude.{◌^◌, ◌<◌, ◌≤◌, unsigned_abs};
 ghost use Rattle.fixed_complex.specs.PairLists.{PairsWithin};
 

@@ -1,4 +1,5 @@
 pub mod ByTable
+pub mod Numbers
 pub mod Pairs
 pub mod PairLists
 pub mod PairSizes
