@@ -1,11 +1,2 @@
-pub mod Absent
-pub mod Items
-pub mod OneCommand
-pub mod Outcomes
-pub mod Ranges
-pub mod Refused
-pub mod Decided
-pub mod Symbols
-pub mod Flipped
-pub mod Decoding
-pub mod Unsaid
+mod Written
+mod Refused

@@ -1,23 +1,21 @@
 //! A modem for the OFDM physical layer of 802.11a at 20 MHz channel spacing, in whole numbers: the program.
 #![tactic(auto)]
 
-mod field;
-mod laws;
-mod lines;
-mod program;
-mod refusals;
-pub mod stages;
-pub mod words;
-
 use modem_ports::{StdSink, StdSource, Steps};
-use program::run;
-use refusals::Status;
+use report_lines::Status;
 use std::env::Env;
 use std::process::ExitCode;
 use std::{env, io};
 
-/// The code where the words of the command line can't be had for another cause than want of memory: that of no
-/// status.
+mod program;
+#[cfg(test)]
+mod tests;
+
+pub use command_words::read_words;
+pub use frame_stages::stage_text;
+pub use program::run;
+
+// The code where the words of the command line can't be had for another cause than want of memory: that of no status.
 const NO_WORDS: u8 = 9;
 
 fn main(rt: HostRuntime) -> ExitCode {
@@ -43,10 +41,7 @@ fn main(rt: HostRuntime) -> ExitCode {
     ExitCode::from(status.code())
 }
 
-/// The words of the command line without the program's name.
+// The words of the command line without the program's name.
 fn words_after_name<R: Env + AllocGlobal>(rt: &R) -> io::Result<Vec<String>> {
     Ok(env::args(rt)?.skip(1).collect(rt.alloc())?)
 }
-
-#[cfg(test)]
-mod tests;

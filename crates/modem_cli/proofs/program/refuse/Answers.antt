@@ -1,8 +1,8 @@
 use Rattle.std.proofs.Common.{◌≡◌, ◌∙◌}
 use Rattle.modem_ports.specs.Counts.{Rose}
 use Rattle.modem_ports.specs.Told.{Takes, TakesPrefix}
-use Rattle.modem_cli.specs.Refusals.{report_line}
-use Rattle.modem_cli.proofs.Refused.{whole_or_part}
+use Rattle.report_lines.specs.Refusals.{report_line}
+use Rattle.modem_cli.proofs.Written.{whole_or_part}
 use Rattle.modem_cli.proofs.program.refuse.Goals as goal
 
 pub returns-clause-reported : goal.returns-clause-reported

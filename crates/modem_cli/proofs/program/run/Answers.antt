@@ -1,8 +1,16 @@
-use Rattle.std.proofs.Common.{refl}
+use Rattle.std.proofs.Common.{◌≡◌, ◌+◌, ◌∙◌, ap, refl, sym, Some}
+use Rattle.modem_ports.specs.Limits.{most_input}
 use Rattle.modem_ports.specs.Counts.{Rose}
-use Rattle.modem_cli.specs.Grammar.{texts_of}
-use Rattle.modem_cli.proofs.Refused.{refused_answers, refused_follows, refused_refuses, answered_follows, answered_refuses, no_refusal_is_ok, bad_words, refuses_words, nothing_said}
-use Rattle.modem_cli.proofs.Flipped.{repaired_where_answered, repaired_where_refused}
+use Rattle.modem_ports.specs.Told.{GivesExactly}
+use Rattle.rate_table.specs.Symbols.{most_octets}
+use Rattle.report_lines.specs.declared.Refusal.TheVariants.{LongCapture, LongPsdu}
+use Rattle.report_lines.specs.declared.Status.TheVariants as status
+use Rattle.report_lines.specs.Refusals.{status_of}
+use Rattle.command_answers.proofs.Outcomes.{nothing_said}
+use Rattle.command_words.specs.Grammar.{texts_of}
+use Rattle.report_lines.proofs.ByKind.{no_refusal_is_ok}
+use Rattle.modem_cli.proofs.Refused.{answered_follows, answered_refuses, bad_words, refused_answers, refused_follows, refused_refuses, refuses_words, where_refused}
+use Rattle.modem_cli.proofs.Written.{repaired_where_answered, repaired_where_refused}
 use Rattle.modem_cli.proofs.program.run.Goals as goal
 
 pub returns-in-Ok-clause-bad_words : goal.returns-in-Ok-clause-bad_words
@@ -10,7 +18,7 @@ returns-in-Ok-clause-bad_words g c = (λ is. cc, λ refused. let never = c.in-Ok
 
 pub returns-in-Ok-clause-refuses : goal.returns-in-Ok-clause-refuses
 returns-in-Ok-clause-refuses g c = λ unread.
-    answered_refuses c.one_field.ensures.no_other (texts_of c.args.words.now) (g.S.Source.left c.args.source.now) (g.K.Sink.taken c.args.out.now) (g.K.Sink.taken c.execute.new.out) _ c.in-Ok.ensures.ok
+    answered_refuses c.outcome_is_one.ensures.only (texts_of c.args.words.now) (g.S.Source.left c.args.source.now) (g.K.Sink.taken c.args.out.now) (g.K.Sink.taken c.execute.new.out) _ c.in-Ok.ensures.ok
 
 pub returns-in-Err-clause-reported : goal.returns-in-Err-clause-reported
 returns-in-Err-clause-reported g c = λ failed. record {
@@ -28,32 +36,46 @@ returns-in-Err-clause-bad_words g c =
 
 pub returns-in-Err-clause-answers : goal.returns-in-Err-clause-answers
 returns-in-Err-clause-answers g c = λ unread unwritten.
-    rw c.refuse.ensures.status (refused_answers c.one_field.ensures.no_other (texts_of c.args.words.now) (g.S.Source.left c.args.source.now) c.in-Err.refusal
+    rw c.refuse.ensures.status (refused_answers c.outcome_is_one.ensures.only (texts_of c.args.words.now) (g.S.Source.left c.args.source.now) c.in-Err.refusal
     (Rose (g.S.Source.faults c.args.source.now) (g.S.Source.faults c.execute.new.source))
     (Rose (g.K.Sink.faults c.args.out.now) (g.K.Sink.faults c.execute.new.out))
     c.in-Err.ensures.outcome (λ is. c.in-Err.ensures.read_fault (rw is refl)) (λ is. c.in-Err.ensures.write_fault (rw is refl)) unread unwritten)
 
 pub returns-in-Err-clause-refuses : goal.returns-in-Err-clause-refuses
 returns-in-Err-clause-refuses g c = λ unread.
-    rw c.refuse.ensures.status (refused_refuses c.one_field.ensures.no_other (texts_of c.args.words.now) (g.S.Source.left c.args.source.now) c.in-Err.refusal
+    rw c.refuse.ensures.status (refused_refuses c.outcome_is_one.ensures.only (texts_of c.args.words.now) (g.S.Source.left c.args.source.now) c.in-Err.refusal
     (Rose (g.S.Source.faults c.args.source.now) (g.S.Source.faults c.execute.new.source))
     (g.K.Sink.taken c.args.out.now) (g.K.Sink.taken c.execute.new.out)
     c.in-Err.ensures.outcome (λ is. c.in-Err.ensures.read_fault (rw is refl)) (λ is. c.in-Err.ensures.in_part (rw is refl)) unread)
 
 pub returns-in-Err-clause-follows : goal.returns-in-Err-clause-follows
 returns-in-Err-clause-follows g c =
-    rw c.refuse.ensures.status (refused_follows c.one_field.ensures.no_other (texts_of c.args.words.now) (g.S.Source.left c.args.source.now) c.in-Err.refusal
+    rw c.refuse.ensures.status (refused_follows c.outcome_is_one.ensures.only (texts_of c.args.words.now) (g.S.Source.left c.args.source.now) c.in-Err.refusal
     (g.K.Sink.taken c.args.out.now) (g.K.Sink.taken c.execute.new.out) c.in-Err.ensures.outcome (λ is. c.in-Err.ensures.in_part (rw is refl)))
 
 pub returns-in-Ok-clause-repaired : goal.returns-in-Ok-clause-repaired
 returns-in-Ok-clause-repaired g c = λ unread unwritten.
-    repaired_where_answered c.one_field.ensures.no_other c.few_flips.ensures (texts_of c.args.words.now) (g.S.Source.left c.args.source.now) (g.K.Sink.taken c.args.out.now) (g.K.Sink.taken c.execute.new.out) _ refl c.in-Ok.ensures.ok
+    repaired_where_answered c.outcome_is_one.ensures.only c.flipped_text_gives_its_psdu.ensures (texts_of c.args.words.now) (g.S.Source.left c.args.source.now) (g.K.Sink.taken c.args.out.now) (g.K.Sink.taken c.execute.new.out) _ refl c.in-Ok.ensures.ok
 
 pub returns-in-Ok-clause-follows : goal.returns-in-Ok-clause-follows
 returns-in-Ok-clause-follows g c =
-    answered_follows c.one_field.ensures.no_other (texts_of c.args.words.now) (g.S.Source.left c.args.source.now) (g.K.Sink.taken c.args.out.now) (g.K.Sink.taken c.execute.new.out) c.in-Ok.ensures.ok
+    answered_follows c.outcome_is_one.ensures.only (texts_of c.args.words.now) (g.S.Source.left c.args.source.now) (g.K.Sink.taken c.args.out.now) (g.K.Sink.taken c.execute.new.out) c.in-Ok.ensures.ok
 
 pub returns-in-Err-clause-repaired : goal.returns-in-Err-clause-repaired
 returns-in-Err-clause-repaired g c = λ unread unwritten.
-    repaired_where_refused c.few_flips.ensures (texts_of c.args.words.now) (g.S.Source.left c.args.source.now) (g.K.Sink.taken c.args.out.now) (g.K.Sink.taken c.execute.new.out) c.refuse.result
+    repaired_where_refused c.flipped_text_gives_its_psdu.ensures (texts_of c.args.words.now) (g.S.Source.left c.args.source.now) (g.K.Sink.taken c.args.out.now) (g.K.Sink.taken c.execute.new.out) c.refuse.result
     (λ is. no_refusal_is_ok c.in-Err.refusal (rw c.refuse.ensures.status at is)) (returns-in-Err-clause-answers g c unread unwritten)
+
+pub returns-in-Err-clause-read_to_limit : goal.returns-in-Err-clause-read_to_limit
+returns-in-Err-clause-read_to_limit g c = λ is.
+    let status_is : status_of c.in-Err.refusal ≡ status.BadInput = sym c.refuse.ensures.status ∙ is in
+    where_refused c.outcome_is_one.ensures.only (texts_of c.args.words.now) (g.S.Source.left c.args.source.now) c.in-Err.refusal LongPsdu
+    (GivesExactly (most_octets + 1) (g.S.Source.left c.args.source.now) (g.S.Source.left c.execute.new.source)) c.in-Err.ensures.outcome (rw status_is tt) (λ never. cc)
+    (λ same command says. (c.in-Err.ensures.reads command says).to_limit (ap Some same))
+
+pub returns-in-Err-clause-read_to_input_limit : goal.returns-in-Err-clause-read_to_input_limit
+returns-in-Err-clause-read_to_input_limit g c = λ is.
+    let status_is : status_of c.in-Err.refusal ≡ status.BadInput = sym c.refuse.ensures.status ∙ is in
+    where_refused c.outcome_is_one.ensures.only (texts_of c.args.words.now) (g.S.Source.left c.args.source.now) c.in-Err.refusal LongCapture
+    (GivesExactly (most_input + 1) (g.S.Source.left c.args.source.now) (g.S.Source.left c.execute.new.source)) c.in-Err.ensures.outcome (rw status_is tt) (λ never. cc)
+    (λ same command says. (c.in-Err.ensures.reads command says).to_input_limit (ap Some same))

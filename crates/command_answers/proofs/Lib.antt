@@ -1,0 +1,5 @@
+pub mod InOrder
+pub mod Inputs
+mod OfText
+pub mod Outcomes
+mod Flipped

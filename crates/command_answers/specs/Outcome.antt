@@ -1,0 +1,63 @@
+-- What words and the bytes of the input come to (own).
+use Rattle.std.specs.Prelude.{ℕ, ◌≡◌, ◌⊎◌, List, Option, IfSome}
+use Rattle.modem_links.specs.Frames.{sent_bytes}
+use Rattle.report_lines.specs.declared.Refusal.{Refusal}
+use Rattle.report_lines.specs.declared.Refusal.TheVariants.{Words}
+use Rattle.report_lines.specs.declared.Status.{Status}
+use Rattle.report_lines.specs.declared.Status.TheVariants as status
+use Rattle.report_lines.specs.Refusals.{status_of}
+use Rattle.command_words.specs.declared.Command.{Command}
+use Rattle.command_words.specs.declared.Command.TheVariants.{Bits, Decode, Send, Show}
+use Rattle.command_words.specs.declared.Stage.TheVariants.{Kept}
+use Rattle.command_words.specs.Grammar.{Say, SayNothing}
+use Rattle.frame_stages.specs.Stages.{stage_text_of}
+use Rattle.command_answers.specs.Decoding.{DecodeOutcome}
+use Rattle.command_answers.specs.InOrder.{Outcome, Refuses, Writes}
+use Rattle.command_answers.specs.Inputs.{OfInput, ReadsToEnd, accepted, reads, taken}
+
+-- the outcome of a command and what it read
+abbrev pub AnswerOf : Command → List ℕ → Outcome → Type 0
+AnswerOf (Bits rate seed) read outcome = outcome ≡ Writes (stage_text_of Kept rate seed read)
+AnswerOf (Decode rate octets) read outcome = DecodeOutcome rate octets read outcome
+AnswerOf (Send rate seed) read outcome = outcome ≡ Writes (sent_bytes rate seed read)
+AnswerOf (Show stage rate seed) read outcome = outcome ≡ Writes (stage_text_of stage rate seed read)
+
+-- the outcome of a command and the bytes of the input
+abbrev pub CommandOutcome : Command → List ℕ → Outcome → Type 0
+CommandOutcome command bytes outcome = OfInput (reads command) (AnswerOf command) bytes outcome
+
+-- words and the bytes of the input have an outcome: that of the command which the words say, or `Words`
+pub data HasOutcome (words : List (List ℕ)) (bytes : List ℕ) (outcome : Outcome) : Type 0 where
+  of_command : (command : Command) → Say words command → CommandOutcome command bytes outcome → HasOutcome words bytes outcome
+  of_no_command : SayNothing words → outcome ≡ Refuses Words → HasOutcome words bytes outcome
+
+-- the same of the bytes that a source tells
+abbrev pub IsOutcome : List (List ℕ) → Option (List ℕ) → Outcome → Type 0
+IsOutcome words left outcome = IfSome left (λ bytes. HasOutcome words bytes outcome)
+
+-- the words are refused for this cause, whatever the input holds
+abbrev pub RefusesWords : List (List ℕ) → Refusal → Type 0
+RefusesWords words refusal =
+    (status_of refusal ≡ status.BadWords) × ((bytes : List ℕ) → HasOutcome words bytes (Refuses refusal))
+
+-- the words are refused
+abbrev pub AreRefused : List (List ℕ) → Type 0
+AreRefused words = (refusal : Refusal) × RefusesWords words refusal
+
+-- the most bytes of input that a command accepts, and the most that it takes
+abbrev pub most_accepted : Command → ℕ
+most_accepted command = accepted (reads command)
+
+abbrev pub most_taken : Command → ℕ
+most_taken command = taken (reads command)
+
+-- a command reads its input to the end
+abbrev pub ReadsInput : Command → Type 0
+ReadsInput command = ReadsToEnd (reads command)
+
+-- the statuses that may follow an outcome: its own, a fault of a port, or want of memory
+abbrev pub MayFollow : Outcome → Status → Type 0
+MayFollow (Writes bytes) ended =
+    (ended ≡ status.Ok) ⊎ (ended ≡ status.ReadFault) ⊎ (ended ≡ status.WriteFault) ⊎ (ended ≡ status.NoMemory)
+MayFollow (Refuses refusal) ended =
+    (ended ≡ status_of refusal) ⊎ (ended ≡ status.ReadFault) ⊎ (ended ≡ status.NoMemory)

@@ -1,0 +1,74 @@
+//! What a command writes.
+ghost use Rattle.std.specs.Prelude.{◌≡◌, ◌⊎◌, ◌≤◌, IfOk, IfErr, OnOk, OnErr};
+ghost use Rattle.command_answers.specs.Answers.{bytes_of_answer};
+ghost use Rattle.command_answers.specs.InOrder.{Refuses, Writes};
+ghost use Rattle.command_answers.specs.Inputs.{IsAccepted, reads};
+ghost use Rattle.command_answers.specs.Outcome.{AnswerOf};
+ghost use Rattle.command_words.specs.Grammar.{IsInRange};
+ghost use Rattle.modem_ports.specs.Counts.{Rose};
+ghost use Rattle.modem_ports.specs.Told.{Takes, TakesPrefix};
+ghost use Rattle.report_lines.specs.Refusals.{answering, step_of};
+
+use crate::decoding::decoded;
+use capture_files::write_samples;
+use command_words::{Command, Stage};
+use fixed_complex::Sample;
+use frame_stages::stage_text;
+use modem_links::frame_samples;
+use modem_ports::{Failed, Sink, Steps, write_all};
+use report_lines::Refusal;
+use std::alloc::Global;
+
+/// What a command writes (own).
+#[derive(Drop)]
+pub enum Answer {
+    /// Bytes as they are.
+    Bytes(Vec<u8>),
+    /// Samples, four bytes each.
+    Samples(Vec<Sample>),
+}
+
+/// What a command writes, of the input that it read (own): the bytes of its outcome, or the refusal that is its outcome,
+/// or `NoMemory`, which is free. `steps` counts the steps of the trellis.
+pub fn answer_of(
+    alloc: Global,
+    command: Command,
+    input: &[u8],
+    steps: &mut Steps,
+) -> Result<Answer, Refusal>
+    requires range { IsInRange command }
+    requires accepted { IsAccepted (reads command) input.now }
+    ensures ok { IfOk result (λ answer. AnswerOf command input.now (Writes (bytes_of_answer answer))) }
+    ensures refused { IfErr result (λ refusal. (refusal ≡ Refusal.NoMemory)
+        ⊎ ((step_of refusal ≡ answering) × AnswerOf command input.now (Refuses refusal))) }
+{
+    match command {
+        Command::Bits { rate, seed } => {
+            Ok(Answer::Bytes(stage_text(alloc, Stage::Kept, rate, seed, input)?))
+        }
+        Command::Decode { rate, length } => decoded(alloc, rate, length, input, steps),
+        Command::Send { rate, seed } => {
+            Ok(Answer::Samples(frame_samples(alloc, rate, seed, input)?))
+        }
+        Command::Show { stage, rate, seed } => {
+            Ok(Answer::Bytes(stage_text(alloc, stage, rate, seed, input)?))
+        }
+    }
+}
+
+/// Writes the bytes of an answer to a sink (own). Takes no memory.
+///
+/// After `Ok` the told bytes are those before followed by all of them. `Failed` comes only where the sink's count of
+/// faults rose in this call, and then the told bytes are those before followed by a prefix.
+pub fn write_answer<K: Sink>(answer: &Answer, out: &mut K) -> Result<(), Failed>
+    ensures ok { OnOk result (Takes (K.taken out.old) (bytes_of_answer answer.now) (K.taken out.new)) }
+    ensures failed { OnErr result (Rose (K.faults out.old) (K.faults out.new)) }
+    ensures prefix { OnErr result
+        (TakesPrefix (K.taken out.old) (bytes_of_answer answer.now) (K.taken out.new)) }
+    ensures counted { K.faults out.old ≤ K.faults out.new }
+{
+    match answer {
+        Answer::Bytes(bytes) => write_all(out, bytes),
+        Answer::Samples(samples) => write_samples(samples, out),
+    }
+}

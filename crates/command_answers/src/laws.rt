@@ -1,0 +1,19 @@
+//! What holds of outcomes, for every input. Its functions do nothing: what each ensures is the law.
+ghost use Rattle.command_answers.specs.Laws.{FlippedTextGivesItsPsdu, OneOutcome, SomeOutcome};
+
+use modem_links::laws::{few_flips, one_field};
+
+/// All words and all bytes have exactly one outcome (own).
+pub fn outcome_is_one()
+    ensures some { SomeOutcome }
+    ensures only { OneOutcome }
+{
+    one_field();
+}
+
+/// What `decode` is asked to write of a text that is the kept code of a field with few flips: that field's PSDU (own).
+pub fn flipped_text_gives_its_psdu()
+    ensures { FlippedTextGivesItsPsdu }
+{
+    few_flips();
+}

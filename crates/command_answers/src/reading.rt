@@ -1,0 +1,89 @@
+//! The input of a command, read to its end.
+ghost use Rattle.std.specs.Prelude.{◌≡◌, ◌⊎◌, ◌≤◌, length, IfOk, IfErr, IfSome};
+ghost use Rattle.std.specs.Result.{result_err};
+ghost use Rattle.command_answers.specs.Inputs.{IsAccepted, IsInput, Reads, RefusesInput, reads, refusal_of_fault};
+ghost use Rattle.report_lines.specs.Refusals.{IsDecided, reading, status_of, step_of};
+
+use command_words::Command;
+use modem_ports::{MOST_INPUT, ReadAllFault, Source, read_all};
+use rate_table::MOST_OCTETS;
+use report_lines::Refusal;
+use std::alloc::Global;
+
+/// What a command reads (own).
+#[derive(Clone, Copy, Debug, PartialEq, Eq)]
+pub enum Reading {
+    /// No input: the source isn't touched.
+    Nothing,
+    /// A PSDU of 1 to 4095 octets.
+    Psdu,
+    /// An input of at most 67108864 bytes.
+    Bytes,
+}
+
+impl Reading {
+    /// What a command reads (own). Takes no memory.
+    pub fn of(command: &Command) -> Reading
+        ensures { result ≡ reads command.now }
+    {
+        match command {
+            Command::Bits { .. } | Command::Send { .. } | Command::Show { .. } => Reading::Psdu,
+            Command::Decode { .. } => Reading::Bytes,
+        }
+    }
+}
+
+/// The input of a command, read to its end (own): `Ok` has the bytes that are left of the source.
+///
+/// `EmptyPsdu`, `LongPsdu` and `LongCapture` come as the input alone decides, the two long ones as soon as the byte that
+/// passes the limit was taken. `ReadFault` comes only where the source's count of faults rose in this call. `NoMemory` is
+/// free.
+pub fn read_input<S: Source>(
+    alloc: Global,
+    kind: Reading,
+    source: &mut S,
+) -> Result<Vec<u8>, Refusal>
+    ensures input { IfOk result (λ input. IfSome (S.left source.old) (IsInput kind input.items)) }
+    ensures accepted { IfOk result (λ input. IsAccepted kind input.items) }
+    ensures refused { IfErr result (λ refusal. (refusal ≡ Refusal.NoMemory) ⊎ (step_of refusal ≡ reading)) }
+    ensures outcome { IfErr result (λ refusal. IsDecided (status_of refusal)
+        → IfSome (S.left source.old) (RefusesInput kind refusal)) }
+    ensures reads { Reads kind (S.left source.old) (S.left source.new)
+        (S.faults source.old) (S.faults source.new) (result_err result) }
+    ensures counted { S.faults source.old ≤ S.faults source.new }
+{
+    match kind {
+        Reading::Nothing => Ok(Vec::new(alloc)),
+        Reading::Psdu => match read_all(alloc, source, usize::from(MOST_OCTETS)) {
+            Ok(psdu) => whole_psdu(psdu),
+            Err(fault) => Err(refusal_of(&fault, Refusal::LongPsdu)),
+        },
+        Reading::Bytes => match read_all(alloc, source, MOST_INPUT) {
+            Ok(bytes) => Ok(bytes),
+            Err(fault) => Err(refusal_of(&fault, Refusal::LongCapture)),
+        },
+    }
+}
+
+// A PSDU that was read, if it has an octet.
+fn whole_psdu(psdu: Vec<u8>) -> Result<Vec<u8>, Refusal>
+    ensures psdu { IfOk result (λ whole. whole.items ≡ psdu.items) }
+    ensures some { IfOk result (λ whole. 1 ≤ length whole.items) }
+    ensures empty { IfErr result (λ refusal. (refusal ≡ Refusal.EmptyPsdu) × (length psdu.items ≡ 0)) }
+{
+    if psdu.is_empty() {
+        return Err(Refusal::EmptyPsdu);
+    }
+    Ok(psdu)
+}
+
+// The refusal of an input that was not read whole; `long` is that of a long one.
+fn refusal_of(fault: &ReadAllFault, long: Refusal) -> Refusal
+    ensures { result ≡ refusal_of_fault long fault.now }
+{
+    match fault {
+        ReadAllFault::Long => long,
+        ReadAllFault::Failed => Refusal::ReadFault,
+        ReadAllFault::NoMemory(_) => Refusal::NoMemory,
+    }
+}

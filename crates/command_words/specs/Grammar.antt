@@ -1,0 +1,72 @@
+-- The words that say a command (own). A number is in decimal digits with no sign and no leading zero.
+use Rattle.std.specs.Prelude.{Vec, String, string_bytes, map, ℕ, ◌≤◌, ◌<◌, ◌^◌, ◌≡◌, ◌≢◌, List, [], ◌∷◌, codes, decimal}
+use Rattle.std.specs.Global.{Global}
+use Rattle.rate_table.specs.declared.Rate.{Rate}
+use Rattle.rate_table.specs.Symbols.{IsLength}
+use Rattle.rate_table.specs.Table.{row_of}
+use Rattle.ofdm_scrambler.specs.Sequence.{IsSeed}
+use Rattle.command_words.specs.declared.Stage.{Stage}
+use Rattle.command_words.specs.declared.Stage.TheVariants.{Scrambled, Coded, Kept, Interleaved, Points, Header, Samples}
+use Rattle.command_words.specs.declared.Command.{Command}
+use Rattle.command_words.specs.declared.Command.TheVariants.{Bits, Decode, Send, Show}
+
+-- the texts of the words of the command line
+abbrev pub texts_of : Vec (String Global) Global → List (List ℕ)
+texts_of words = map string_bytes words.items
+
+-- a rate's word: its megabits a second
+abbrev pub rate_word : Rate → List ℕ
+rate_word rate = decimal (row_of rate).mbps
+
+-- a stage's word
+abbrev pub stage_word : Stage → List ℕ
+stage_word Scrambled = codes "scrambled"
+stage_word Coded = codes "coded"
+stage_word Kept = codes "kept"
+stage_word Interleaved = codes "interleaved"
+stage_word Points = codes "points"
+stage_word Header = codes "header"
+stage_word Samples = codes "samples"
+
+-- the words of a command, its name first
+abbrev pub words_of : Command → List (List ℕ)
+words_of (Bits rate seed) = codes "bits" ∷ rate_word rate ∷ decimal seed ∷ []
+words_of (Decode rate octets) = codes "decode" ∷ rate_word rate ∷ decimal octets ∷ []
+words_of (Send rate seed) = codes "send" ∷ rate_word rate ∷ decimal seed ∷ []
+words_of (Show stage rate seed) = codes "show" ∷ stage_word stage ∷ rate_word rate ∷ decimal seed ∷ []
+
+-- the numbers of a command are within their ranges
+abbrev pub IsInRange : Command → Type 0
+IsInRange (Bits rate seed) = IsSeed seed
+IsInRange (Decode rate octets) = IsLength octets
+IsInRange (Send rate seed) = IsSeed seed
+IsInRange (Show stage rate seed) = IsSeed seed
+
+-- the words say the command
+pub record Say (words : List (List ℕ)) (command : Command) : Type 0 where
+  pub in_range : IsInRange command
+  pub are : words ≡ words_of command
+
+-- the words say no command
+abbrev pub SayNothing : List (List ℕ) → Type 0
+SayNothing words = (command : Command) → ¬ Say words command
+
+-- a number is from a least to a most one
+abbrev pub IsFrom : ℕ → ℕ → ℕ → Type 0
+IsFrom least most number = (least ≤ number) × (number ≤ most)
+
+-- a word writes no number from a least to a most one
+abbrev pub WritesNoneFrom : ℕ → ℕ → List ℕ → Type 0
+WritesNoneFrom least most word = (number : ℕ) → IsFrom least most number → word ≢ decimal number
+
+-- a word writes no number that a `u32` holds
+abbrev pub WritesNoNumber : List ℕ → Type 0
+WritesNoNumber word = (number : ℕ) → number < 2 ^ 32 → word ≢ decimal number
+
+-- a word names no rate
+abbrev pub NamesNoRate : List ℕ → Type 0
+NamesNoRate word = (rate : Rate) → word ≢ rate_word rate
+
+-- a word names no stage
+abbrev pub NamesNoStage : List ℕ → Type 0
+NamesNoStage word = (stage : Stage) → word ≢ stage_word stage

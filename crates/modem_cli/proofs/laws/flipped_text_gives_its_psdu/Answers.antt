@@ -1,5 +1,0 @@
-use Rattle.modem_cli.proofs.Flipped.{flipped_outcome}
-use Rattle.modem_cli.proofs.laws.flipped_text_gives_its_psdu.Goals as goal
-
-pub returns : goal.returns
-returns c = flipped_outcome c.few_flips.ensures

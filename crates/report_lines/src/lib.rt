@@ -1,0 +1,101 @@
+//! Refusals of a run, how it ends, and the line that reports a refusal. No call takes memory.
+#![tactic(auto)]
+
+ghost use Rattle.std.specs.Prelude.{◌≡◌};
+ghost use Rattle.report_lines.specs.Refusals.{code_of_status, status_of};
+ghost use Rattle.report_lines.specs.declared.Refusal.TheVariants.{NoMemory};
+
+use std::alloc::AllocError;
+
+mod lines;
+
+pub use lines::{Line, line_of};
+
+/// How `run` ends (own).
+#[derive(Clone, Copy, Debug, PartialEq, Eq)]
+pub enum Status {
+    /// The command's bytes were written.
+    Ok,
+    /// The words are refused.
+    BadWords,
+    /// The input is refused.
+    BadInput,
+    /// No frame is found.
+    NoFrame,
+    /// A frame is cut.
+    CutFrame,
+    /// The source failed.
+    ReadFault,
+    /// A write of the answer failed.
+    WriteFault,
+    /// Want of memory.
+    NoMemory,
+}
+
+impl Status {
+    /// The code with which the program ends: 0, or 2 to 8 in the order of the refusing statuses (own). Takes no memory.
+    pub fn code(self) -> u8
+        ensures { result ≡ code_of_status self }
+    {
+        match self {
+            Status::Ok => 0,
+            Status::BadWords => 2,
+            Status::BadInput => 3,
+            Status::NoFrame => 4,
+            Status::CutFrame => 5,
+            Status::ReadFault => 6,
+            Status::WriteFault => 7,
+            Status::NoMemory => 8,
+        }
+    }
+}
+
+/// Why a run is refused (own).
+#[derive(Clone, Copy, Debug, PartialEq, Eq)]
+pub enum Refusal {
+    /// The words say no command.
+    Words,
+    /// A command that reads a PSDU reached the end of input with no octet.
+    EmptyPsdu,
+    /// A command that reads a PSDU took a 4096th octet.
+    LongPsdu,
+    /// Byte 67108865 of an input that is no PSDU was taken.
+    LongCapture,
+    /// The least place of a text of bits, counted from 0, that holds neither `0` nor `1`, the final newline excepted.
+    BadBit { at: usize },
+    /// The text has `have` bits, and the words ask for another number, `need`.
+    BitCount { have: u32, need: u32 },
+    /// A read failed.
+    ReadFault,
+    /// A write of the answer failed.
+    WriteFault,
+    /// Want of memory.
+    NoMemory,
+}
+
+impl Refusal {
+    /// The status of a refusal. Takes no memory.
+    pub fn status(self) -> Status
+        ensures { result ≡ status_of self }
+    {
+        match self {
+            Refusal::Words => Status::BadWords,
+            Refusal::EmptyPsdu
+            | Refusal::LongPsdu
+            | Refusal::LongCapture
+            | Refusal::BadBit { .. }
+            | Refusal::BitCount { .. } => Status::BadInput,
+            Refusal::ReadFault => Status::ReadFault,
+            Refusal::WriteFault => Status::WriteFault,
+            Refusal::NoMemory => Status::NoMemory,
+        }
+    }
+}
+
+impl From<AllocError> for Refusal {
+    ghost from_gives = { λ _ refusal. refusal ≡ NoMemory };
+
+    fn from(_: AllocError) -> Refusal {
+        Refusal::NoMemory
+    }
+}

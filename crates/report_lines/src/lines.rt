@@ -1,0 +1,91 @@
+//! The line that reports a refusal.
+ghost use Rattle.std.specs.Prelude.{◌≡◌, ◌+◌, ◌≤◌, ◌++◌, decimal, length};
+ghost use Rattle.report_lines.specs.Refusals.{report_line};
+
+use crate::Refusal;
+use itoa::Buffer;
+use std::marker::Model;
+
+/// A line of at most 80 bytes, its newline included (own).
+#[derive(Drop)]
+pub struct Line {
+    bytes: [u8; 80],
+    len: usize,
+}
+
+impl Model for Line {
+    ghost use Rattle.std.specs.Prelude.{ℕ, ◌≤◌, List, take};
+
+    ghost Value = { List ℕ };
+
+    ghost view = { λ line. take line.len line.bytes };
+
+    ghost invariant = { λ line. line.len ≤ 80 };
+}
+
+impl Line {
+    /// The line's bytes. Takes no memory.
+    pub fn as_slice(&self) -> &[u8]
+        ensures value { result.now ≡ self.now }
+        ensures short { length result.now ≤ 80 }
+    {
+        &self.bytes[..self.len]
+    }
+
+    // The line with more bytes behind it.
+    fn with(self, text: &[u8]) -> Line
+        requires { length self + length text.now ≤ 80 }
+        ensures value { result ≡ self ++ text.now }
+        ensures len { length result ≡ length self + length text.now }
+    {
+        let Line { mut bytes, len } = self;
+        let end = len + text.len();
+        bytes[len..end].copy_from_slice(text);
+        Line { bytes, len: end }
+    }
+
+    // The line with a number behind it, in decimal.
+    fn with_number(self, number: u64) -> Line
+        requires { length self ≤ 60 }
+        ensures value { result ≡ self ++ decimal number }
+        ensures len { length result ≤ length self + 20 }
+    {
+        let mut buffer = Buffer::new();
+        self.with(buffer.format(number).as_bytes())
+    }
+
+    // A line of these bytes.
+    fn of(text: &[u8]) -> Line
+        requires { length text.now ≤ 80 }
+        ensures value { result ≡ text.now }
+        ensures len { length result ≡ length text.now }
+    {
+        let mut bytes = [0; 80];
+        let len = text.len();
+        bytes[..len].copy_from_slice(text);
+        Line { bytes, len }
+    }
+}
+
+/// The report line of a refusal, with its newline (own). Takes no memory.
+pub fn line_of(refusal: &Refusal) -> Line
+    ensures { result ≡ report_line refusal.now }
+{
+    match refusal {
+        Refusal::Words => Line::of(b"error 1: words\n"),
+        Refusal::EmptyPsdu => Line::of(b"error 2: empty psdu\n"),
+        Refusal::LongPsdu => Line::of(b"error 3: psdu over 4095 octets\n"),
+        Refusal::LongCapture => Line::of(b"error 5: input over 67108864 bytes\n"),
+        Refusal::BadBit { at } => Line::of(b"error 6: no bit at ")
+            .with_number(*at as u64)
+            .with(b"\n"),
+        Refusal::BitCount { have, need } => Line::of(b"error 7: ")
+            .with_number(u64::from(*have))
+            .with(b" bits, need ")
+            .with_number(u64::from(*need))
+            .with(b"\n"),
+        Refusal::ReadFault => Line::of(b"error 10: read fault\n"),
+        Refusal::WriteFault => Line::of(b"error 11: write fault\n"),
+        Refusal::NoMemory => Line::of(b"error 12: no memory\n"),
+    }
+}
