@@ -32,4 +32,5 @@ grown_size size = 2 * size + 2 * size / 2 ^ 20 + 2
 abbrev pub down_budget_of : ℕ → ℕ → ℕ
 down_budget_of zero size = 0
 down_budget_of (suc k) size =
-    down_budget_of k (grown_size size) + (2 ^ k * (rounding * largest_turn + 2 * size * product_error) / 2 ^ 20 + 1)
+    down_budget_of k (grown_size size)
+    + (2 ^ k * (rounding * largest_turn + 2 * size * product_error) / 2 ^ 20 + 1)

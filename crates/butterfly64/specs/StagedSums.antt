@@ -35,7 +35,8 @@ turned_differences k x n = scaled_product (conjugate (stage_turn k n)) (minus (x
 unfoldable pub down_at : ℕ → (ℕ → Cx) → ℕ → Cx
 down_at zero x n = x 0
 down_at (suc k) x n =
-    if nat_eq (n % 2) 0 then down_at k (half_sums k x) (n / 2) else down_at k (turned_differences k x) (n / 2)
+    if nat_eq (n % 2) 0 then down_at k (half_sums k x) (n / 2)
+    else down_at k (turned_differences k x) (n / 2)
 
 -- the staged sums of 64 pairs
 abbrev pub up_sums : List Cx → List Cx

@@ -124,7 +124,8 @@ pub(crate) fn joined_lanes(even: &Eight, odd: &Eight, turns: &Eight) -> (Eight, 
 fn scaled_back_lanes(w: &Eight, z: &Eight) -> Eight
     requires w { EachWithin (2 ^ 20) w.now }
     requires z { EachWithin (2 ^ 40) z.now }
-    ensures value { (l : ℕ) → l < 8 → lane result l ≡ scaled_product (conjugate (lane w.now l)) (lane z.now l) }
+    ensures value { (l : ℕ) → l < 8
+        → lane result l ≡ scaled_product (conjugate (lane w.now l)) (lane z.now l) }
     ensures bound { EachWithin (2 ^ 42) result }
 {
     Eight {
@@ -141,7 +142,8 @@ pub(crate) fn parted_lanes(first: &Eight, last: &Eight, turns: &Eight) -> (Eight
     requires turns { EachWithin (2 ^ 20) turns.now }
     ensures sums { (l : ℕ) → l < 8 → lane result.0 l ≡ plus (lane first.now l) (lane last.now l) }
     ensures differences { (l : ℕ) → l < 8 → lane result.1 l
-        ≡ scaled_product (conjugate (lane turns.now l)) (minus (lane first.now l) (lane last.now l)) }
+        ≡ scaled_product (conjugate (lane turns.now l))
+        (minus (lane first.now l) (lane last.now l)) }
     ensures sums_bound { EachWithin (2 ^ 43) result.0 }
     ensures differences_bound { EachWithin (2 ^ 43) result.1 }
 {
@@ -178,7 +180,8 @@ pub(crate) fn one_apart(x: &Eight) -> (Eight, Eight)
 pub(crate) fn mixed_by_one(x: &Eight, y: &Eight) -> Eight
     requires x { EachWithin (2 ^ 62 - 1) x.now }
     requires y { EachWithin (2 ^ 62 - 1) y.now }
-    ensures { (l : ℕ) → l < 8 → lane result l ≡ (if is_low 0 l then lane x.now l else lane y.now l) }
+    ensures { (l : ℕ) → l < 8
+        → lane result l ≡ (if is_low 0 l then lane x.now l else lane y.now l) }
 {
     let (x_re, x_im) = (i64x8::from_array(x.re), i64x8::from_array(x.im));
     let (y_re, y_im) = (i64x8::from_array(y.re), i64x8::from_array(y.im));
@@ -214,7 +217,8 @@ pub(crate) fn two_apart(x: &Eight) -> (Eight, Eight)
 pub(crate) fn mixed_by_two(x: &Eight, y: &Eight) -> Eight
     requires x { EachWithin (2 ^ 62 - 1) x.now }
     requires y { EachWithin (2 ^ 62 - 1) y.now }
-    ensures { (l : ℕ) → l < 8 → lane result l ≡ (if is_low 1 l then lane x.now l else lane y.now l) }
+    ensures { (l : ℕ) → l < 8
+        → lane result l ≡ (if is_low 1 l then lane x.now l else lane y.now l) }
 {
     let (x_re, x_im) = (i64x8::from_array(x.re), i64x8::from_array(x.im));
     let (y_re, y_im) = (i64x8::from_array(y.re), i64x8::from_array(y.im));
@@ -250,7 +254,8 @@ pub(crate) fn four_apart(x: &Eight) -> (Eight, Eight)
 pub(crate) fn mixed_by_four(x: &Eight, y: &Eight) -> Eight
     requires x { EachWithin (2 ^ 62 - 1) x.now }
     requires y { EachWithin (2 ^ 62 - 1) y.now }
-    ensures { (l : ℕ) → l < 8 → lane result l ≡ (if is_low 2 l then lane x.now l else lane y.now l) }
+    ensures { (l : ℕ) → l < 8
+        → lane result l ≡ (if is_low 2 l then lane x.now l else lane y.now l) }
 {
     let (x_re, x_im) = (i64x8::from_array(x.re), i64x8::from_array(x.im));
     let (y_re, y_im) = (i64x8::from_array(y.re), i64x8::from_array(y.im));

@@ -8,14 +8,14 @@ ghost use Rattle.butterfly64.specs.StagedSums.{up_at, down_at, up_sums, down_sum
 ghost use Rattle.fixed_complex.specs.PairLists.{entry, PairsWithin, PairsOfSize};
 ghost use Rattle.butterfly64.specs.MirrorOrder.{mirror_of};
 
+use crate::many_eights::{down_eights, eights, pairs, up_eights};
+use fixed_complex::{Cx, add, conj, scaled, sub, turn};
+
 mod eights;
 mod lane_turns;
 mod lanes;
 pub mod laws;
 mod many_eights;
-
-use crate::many_eights::{down_eights, eights, pairs, up_eights};
-use fixed_complex::{Cx, add, conj, scaled, sub, turn};
 
 /// The staged sums `up` of 64 pairs whose components are at most 2^30 in size: at place n about the sum over c of
 /// x(c) * T[c*n] / 2^20, rounded at each of six joins (own). Works in lanes. Takes no memory.
@@ -92,7 +92,8 @@ fn up_in_place(x: &mut [Cx], level: usize)
     requires level { level ≤ 6 }
     requires length { length x.old ≡ 2 ^ level }
     requires sizes { PairsOfSize (2 ^ 31) x.old }
-    ensures { (n : ℕ) → n < 2 ^ level → entry x.new n ≡ up_at level (λ m. entry x.old (mirror_of level m)) n }
+    ensures { (n : ℕ) → n < 2 ^ level
+        → entry x.new n ≡ up_at level (λ m. entry x.old (mirror_of level m)) n }
 {
     if level > 0 {
         let half = x.len() / 2;
@@ -108,7 +109,8 @@ fn down_in_place(x: &mut [Cx], level: usize)
     requires level { level ≤ 6 }
     requires length { length x.old ≡ 2 ^ level }
     requires sizes { PairsOfSize (2 ^ 31 * 3 ^ (6 - level)) x.old }
-    ensures { (n : ℕ) → n < 2 ^ level → entry x.new (mirror_of level n) ≡ down_at level (entry x.old) n }
+    ensures { (n : ℕ) → n < 2 ^ level
+        → entry x.new (mirror_of level n) ≡ down_at level (entry x.old) n }
 {
     if level > 0 {
         let half = x.len() / 2;
@@ -146,7 +148,8 @@ fn part(first: &mut [Cx], last: &mut [Cx], step: usize)
     ensures sums { (j : ℕ) → j < length first.old → entry first.new j
         ≡ plus (entry first.old j) (entry last.old j) }
     ensures differences { (j : ℕ) → j < length last.old → entry last.new j
-        ≡ scaled_product (conjugate (turn_at (step * j))) (minus (entry first.old j) (entry last.old j)) }
+        ≡ scaled_product (conjugate (turn_at (step * j)))
+        (minus (entry first.old j) (entry last.old j)) }
 {
     for j in 0..first.len() {
         let (sum, difference) = parted(first[j], last[j], step * j);

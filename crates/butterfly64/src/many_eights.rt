@@ -57,10 +57,12 @@ fn join_eights(evens: &mut [Eight], odds: &mut [Eight])
     requires odds { PairsOfSize (2 ^ 39) (pairs_of odds.old) }
     ensures sums { (c l : ℕ) → c < length evens.old → l < 8 → lane (eight_in evens.new c) l
         ≡ plus (lane (eight_in evens.old c) l)
-        (scaled_product (lane (eight_in TURNS (length evens.old + 2 + c)) l) (lane (eight_in odds.old c) l)) }
+        (scaled_product (lane (eight_in TURNS (length evens.old + 2 + c)) l)
+        (lane (eight_in odds.old c) l)) }
     ensures differences { (c l : ℕ) → c < length odds.old → l < 8 → lane (eight_in odds.new c) l
         ≡ minus (lane (eight_in evens.old c) l)
-        (scaled_product (lane (eight_in TURNS (length evens.old + 2 + c)) l) (lane (eight_in odds.old c) l)) }
+        (scaled_product (lane (eight_in TURNS (length evens.old + 2 + c)) l)
+        (lane (eight_in odds.old c) l)) }
 {
     let turns = evens.len() + 2;
     for c in 0..evens.len() {

@@ -15,8 +15,10 @@ pub fn carriers_of_data()
 
 /// Each carrier from -32 to 31 has a bin of its own, below 64 (own).
 pub fn bins_of_carriers()
-    ensures within { (carrier : ℤ) → neg_ℤ (pos 32) ≤ℤ carrier → carrier ≤ℤ pos 31 → bin_of carrier < 64 }
-    ensures distinct { (a b : ℤ) → neg_ℤ (pos 32) ≤ℤ a → a ≤ℤ pos 31 → neg_ℤ (pos 32) ≤ℤ b → b ≤ℤ pos 31
+    ensures within { (carrier : ℤ) → neg_ℤ (pos 32) ≤ℤ carrier → carrier ≤ℤ pos 31
+        → bin_of carrier < 64 }
+    ensures distinct { (a b : ℤ) → neg_ℤ (pos 32) ≤ℤ a → a ≤ℤ pos 31 → neg_ℤ (pos 32) ≤ℤ b
+        → b ≤ℤ pos 31
         → bin_of a ≡ bin_of b → a ≡ b }
 {}
 

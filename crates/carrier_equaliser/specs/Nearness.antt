@@ -14,4 +14,5 @@ pub record IsNearPlainSum (bound : ℕ) (carrier sum : Cx) : Type 0 where
 -- 64 carriers, and each within the bound of the sum over the 64 times n of r(n) * conj T[bin*n], where r are the samples
 pub record AreNearPlainSums (bound : ℕ) (carriers : List Cx) (samples : List Sample) : Type 0 where
   pub long : length carriers ≡ 64
-  pub each : (bin : ℕ) → bin < 64 → IsNearPlainSum bound (entry carriers bin) (plain_down (pair_at samples) bin)
+  pub each : (bin : ℕ) → bin < 64
+      → IsNearPlainSum bound (entry carriers bin) (plain_down (pair_at samples) bin)

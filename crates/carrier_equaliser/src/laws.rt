@@ -16,11 +16,13 @@ ghost use Rattle.carrier_equaliser.specs.Nearness.{AreNearPlainSums};
 /// size, and at most 91*B + 49 in each component (own).
 pub fn sent_carriers_come_back()
     ensures size { (bound : ℕ) (sent : ℕ → Cx) (body : List Sample) (carriers : List Cx)
-        → ((bin : ℕ) → IsWithin 954 (sent bin)) → AreNearPlain bound body (all_times (plain_body sent))
+        → ((bin : ℕ) → IsWithin 954 (sent bin))
+        → AreNearPlain bound body (all_times (plain_body sent))
         → AreNearPlainSums 40 carriers body → (bin : ℕ) → bin < 64
         → IsOfSize (91 * bound + 70) (minus (entry carriers bin) (multiple (pos 32) (sent bin))) }
     ensures within { (bound : ℕ) (sent : ℕ → Cx) (body : List Sample) (carriers : List Cx)
-        → ((bin : ℕ) → IsWithin 954 (sent bin)) → AreNearPlain bound body (all_times (plain_body sent))
+        → ((bin : ℕ) → IsWithin 954 (sent bin))
+        → AreNearPlain bound body (all_times (plain_body sent))
         → AreNearPlainSums 40 carriers body → (bin : ℕ) → bin < 64
         → IsWithin (91 * bound + 49) (minus (entry carriers bin) (multiple (pos 32) (sent bin))) }
 {}

@@ -9,11 +9,11 @@ ghost use Rattle.modem_ports.specs.Counts.{raised_by};
 ghost use Rattle.carrier_equaliser.specs.Received.{pair_at, received};
 ghost use Rattle.carrier_equaliser.specs.Nearness.{AreNearPlainSums};
 
-pub mod laws;
-
 use butterfly64::down;
 use fixed_complex::{Cx, Sample};
 use modem_ports::Steps;
+
+pub mod laws;
 
 const ZERO: Cx = Cx { re: 0, im: 0 };
 

@@ -20,7 +20,8 @@ level_bits Bpsk = (0 ∷ []) ∷ (1 ∷ []) ∷ []
 level_bits Qpsk = (0 ∷ []) ∷ (1 ∷ []) ∷ []
 level_bits Qam16 = (0 ∷ 0 ∷ []) ∷ (0 ∷ 1 ∷ []) ∷ (1 ∷ 1 ∷ []) ∷ (1 ∷ 0 ∷ []) ∷ []
 level_bits Qam64 =
-    (0 ∷ 0 ∷ 0 ∷ []) ∷ (0 ∷ 0 ∷ 1 ∷ []) ∷ (0 ∷ 1 ∷ 1 ∷ []) ∷ (0 ∷ 1 ∷ 0 ∷ []) ∷ (1 ∷ 1 ∷ 0 ∷ []) ∷ (1 ∷ 1 ∷ 1 ∷ []) ∷ (1 ∷ 0 ∷ 1 ∷ []) ∷ (1 ∷ 0 ∷ 0 ∷ []) ∷ []
+    (0 ∷ 0 ∷ 0 ∷ []) ∷ (0 ∷ 0 ∷ 1 ∷ []) ∷ (0 ∷ 1 ∷ 1 ∷ []) ∷ (0 ∷ 1 ∷ 0 ∷ []) ∷ (1 ∷ 1 ∷ 0 ∷ [])
+    ∷ (1 ∷ 1 ∷ 1 ∷ []) ∷ (1 ∷ 0 ∷ 1 ∷ []) ∷ (1 ∷ 0 ∷ 0 ∷ []) ∷ []
 
 -- the place of the level that bits name, counted from 0 at the lowest
 unfoldable pub place_of : Modulation → List ℕ → ℕ
@@ -39,7 +40,8 @@ amplitude_of Qam64 = 100
 
 -- the axis of a point whose bits on this axis are given
 unfoldable pub axis_of : Modulation → List ℕ → ℤ
-axis_of modulation bits = pos (amplitude_of modulation) *ℤ level_at modulation (place_of modulation bits)
+axis_of modulation bits =
+    pos (amplitude_of modulation) *ℤ level_at modulation (place_of modulation bits)
 
 -- a bit of the Gray code of a place, 0 being the least significant: whether that bit of the place differs from the next
 abbrev pub gray_bit : ℕ → ℕ → ℕ

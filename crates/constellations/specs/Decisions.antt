@@ -10,7 +10,8 @@ abbrev pub thresholds : Modulation → List ℤ
 thresholds Bpsk = pos 0 ∷ []
 thresholds Qpsk = pos 0 ∷ []
 thresholds Qam16 = neg_ℤ (pos 410) ∷ pos 0 ∷ pos 410 ∷ []
-thresholds Qam64 = neg_ℤ (pos 600) ∷ neg_ℤ (pos 400) ∷ neg_ℤ (pos 200) ∷ pos 0 ∷ pos 200 ∷ pos 400 ∷ pos 600 ∷ []
+thresholds Qam64 =
+    neg_ℤ (pos 600) ∷ neg_ℤ (pos 400) ∷ neg_ℤ (pos 200) ∷ pos 0 ∷ pos 200 ∷ pos 400 ∷ pos 600 ∷ []
 
 -- whether an axis lies above a threshold, where m is the square of the channel's size
 abbrev pub lies_above : ℤ → ℤ → ℤ → Bool
@@ -22,7 +23,8 @@ thresholds_below modulation part m = count_by (lies_above part m) (thresholds mo
 
 -- the bits of the level at that place
 abbrev pub axis_decided : Modulation → ℤ → ℤ → List ℕ
-axis_decided modulation part m = slice_index_or (level_bits modulation) (thresholds_below modulation part m) []
+axis_decided modulation part m =
+    slice_index_or (level_bits modulation) (thresholds_below modulation part m) []
 
 -- the bits of I and then those of Q, with zeros behind them up to six entries; BPSK has no bit for Q
 unfoldable pub decided : Modulation → Cx → ℤ → List ℕ
@@ -34,7 +36,8 @@ decided Qam64 z m = axis_decided Qam64 z.re m ++ axis_decided Qam64 z.im m
 -- a received axis is less than the amplitude, half the spacing of the levels, away from an axis that was sent, over a
 -- channel whose size has the square m
 abbrev pub IsNearAxis : Modulation → ℤ → ℤ → ℕ → Type 0
-IsNearAxis modulation sent part m = unsigned_abs (pos 1296 *ℤ part -ℤ sent *ℤ pos m) < amplitude_of modulation * m
+IsNearAxis modulation sent part m =
+    unsigned_abs (pos 1296 *ℤ part -ℤ sent *ℤ pos m) < amplitude_of modulation * m
 
 -- so near are both axes of a point; in BPSK Q plays no part
 pub record IsNear (modulation : Modulation) (sent z : Cx) (m : ℕ) : Type 0 where

@@ -16,6 +16,9 @@ bits_of_q modulation bits = take (axis_width modulation) (drop (axis_width modul
 -- the point of bits: in BPSK its Q is 0
 unfoldable pub point_of : Modulation → List ℕ → Cx
 point_of Bpsk bits = record { re = axis_of Bpsk (bits_of_i Bpsk bits); im = pos 0 }
-point_of Qpsk bits = record { re = axis_of Qpsk (bits_of_i Qpsk bits); im = axis_of Qpsk (bits_of_q Qpsk bits) }
-point_of Qam16 bits = record { re = axis_of Qam16 (bits_of_i Qam16 bits); im = axis_of Qam16 (bits_of_q Qam16 bits) }
-point_of Qam64 bits = record { re = axis_of Qam64 (bits_of_i Qam64 bits); im = axis_of Qam64 (bits_of_q Qam64 bits) }
+point_of Qpsk bits =
+    record { re = axis_of Qpsk (bits_of_i Qpsk bits); im = axis_of Qpsk (bits_of_q Qpsk bits) }
+point_of Qam16 bits =
+    record { re = axis_of Qam16 (bits_of_i Qam16 bits); im = axis_of Qam16 (bits_of_q Qam16 bits) }
+point_of Qam64 bits =
+    record { re = axis_of Qam64 (bits_of_i Qam64 bits); im = axis_of Qam64 (bits_of_q Qam64 bits) }

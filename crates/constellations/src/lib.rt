@@ -9,11 +9,12 @@ ghost use Rattle.constellations.specs.Axes.{amplitude_of, axis_of, axis_width, g
 ghost use Rattle.constellations.specs.Decisions.{decided, lies_above, thresholds, thresholds_below};
 ghost use Rattle.constellations.specs.Points.{point_of};
 
+use fixed_complex::Cx;
+use rate_table::Modulation;
+
 pub mod laws;
 
 pub use carrier_bins::{bin, data_carrier};
-use fixed_complex::Cx;
-use rate_table::Modulation;
 
 /// The point of the first N_BPSC bits, each entry 0 or 1; the entries behind them play no part (IEEE Std 802.11-2012,
 /// 18.3.5.8; the amplitudes are own).

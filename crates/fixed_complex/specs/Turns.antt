@@ -5,11 +5,14 @@ use Rattle.fixed_complex.specs.declared.Cx.{Cx}
 -- C[0] to C[16]: 2^20 times the cosine of m 64ths of a circle, rounded to a whole number
 abbrev pub quarter_cosines : List ℕ
 quarter_cosines =
-    1048576 ∷ 1043527 ∷ 1028428 ∷ 1003425 ∷ 968758 ∷ 924761 ∷ 871859 ∷ 810560 ∷ 741455 ∷ 665210 ∷ 582558 ∷ 494295 ∷ 401273 ∷ 304386 ∷ 204567 ∷ 102778 ∷ 0 ∷ []
+    1048576 ∷ 1043527 ∷ 1028428 ∷ 1003425 ∷ 968758 ∷ 924761 ∷ 871859 ∷ 810560 ∷ 741455 ∷ 665210
+    ∷ 582558 ∷ 494295 ∷ 401273 ∷ 304386 ∷ 204567 ∷ 102778 ∷ 0 ∷ []
 
 -- C[0] to C[32], by C[32 - m] = -C[m]
 abbrev pub half_cosine : ℕ → ℤ
-half_cosine m = if nat_le m 16 then pos (slice_index quarter_cosines m) else neg_ℤ (pos (slice_index quarter_cosines (32 - m)))
+half_cosine m =
+    if nat_le m 16 then pos (slice_index quarter_cosines m)
+    else neg_ℤ (pos (slice_index quarter_cosines (32 - m)))
 
 -- C[m] for every m, by C[64 - m] = C[m] and C[m + 64] = C[m]
 abbrev pub cosine_at : ℕ → ℤ

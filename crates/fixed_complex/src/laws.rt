@@ -10,7 +10,8 @@ ghost use Rattle.fixed_complex.specs.Turns.{turn_at};
 pub fn whole_half_and_quarter_turns()
     ensures whole { (m : ℕ) → turn_at (m + 64) ≡ turn_at m }
     ensures half { (m : ℕ) → turn_at (m + 32) ≡ minus zero_pair (turn_at m) }
-    ensures quarter { (m : ℕ) → turn_at (m + 16) ≡ times (turn_at m) (record { re = pos 0; im = pos 1 }) }
+    ensures quarter { (m : ℕ)
+        → turn_at (m + 16) ≡ times (turn_at m) (record { re = pos 0; im = pos 1 }) }
 {}
 
 /// The sum of T[d*n] over n from 0 to 63 is 0 unless 64 divides d (own).
@@ -40,8 +41,10 @@ pub fn size_of_a_turn()
 /// larger bound is a bound, too (own).
 pub fn sizes_of_pairs()
     ensures sum { (a b : ℕ) (x y : Cx) → IsOfSize a x → IsOfSize b y → IsOfSize (a + b) (plus x y) }
-    ensures difference { (a b : ℕ) (x y : Cx) → IsOfSize a x → IsOfSize b y → IsOfSize (a + b) (minus x y) }
-    ensures product { (a b : ℕ) (x y : Cx) → IsOfSize a x → IsOfSize b y → IsOfSize (a * b) (times x y) }
+    ensures difference { (a b : ℕ) (x y : Cx) → IsOfSize a x → IsOfSize b y
+        → IsOfSize (a + b) (minus x y) }
+    ensures product { (a b : ℕ) (x y : Cx) → IsOfSize a x → IsOfSize b y
+        → IsOfSize (a * b) (times x y) }
     ensures conjugate { (a : ℕ) (x : Cx) → IsOfSize a x → IsOfSize a (conjugate x) }
     ensures component { (a : ℕ) (x : Cx) → IsOfSize a x → IsWithin a x }
     ensures components { (a c : ℕ) (x : Cx) → 2 * (a * a) ≤ c * c → IsWithin a x → IsOfSize c x }
@@ -50,5 +53,6 @@ pub fn sizes_of_pairs()
 
 /// 2^20 times the rounded product over 2^20 is within half of 2^20 of the product, in each component (own).
 pub fn rounding_of_products()
-    ensures { (w z : Cx) → IsWithin (2 ^ 19) (minus (multiple (pos (2 ^ 20)) (scaled_product w z)) (times w z)) }
+    ensures { (w z : Cx)
+        → IsWithin (2 ^ 19) (minus (multiple (pos (2 ^ 20)) (scaled_product w z)) (times w z)) }
 {}

@@ -52,7 +52,8 @@ pub fn product_of_sizes()
     ensures with_conjugate { (x y u v : ℤ) (a b : ℕ) → sum_of_squares x y ≤ℤ pos (a * a)
         → sum_of_squares u v ≤ℤ pos (b * b)
         → sum_of_squares (x *ℤ u +ℤ y *ℤ v) (y *ℤ u -ℤ x *ℤ v) ≤ℤ pos (a * b * (a * b)) }
-    ensures with_number { (k x y : ℤ) (m a : ℕ) → unsigned_abs k ≤ m → sum_of_squares x y ≤ℤ pos (a * a)
+    ensures with_number { (k x y : ℤ) (m a : ℕ) → unsigned_abs k ≤ m
+        → sum_of_squares x y ≤ℤ pos (a * a)
         → sum_of_squares (k *ℤ x) (k *ℤ y) ≤ℤ pos (m * a * (m * a)) }
 {}
 
@@ -61,7 +62,8 @@ pub fn product_of_sizes()
 pub fn size_of_a_pair()
     ensures first { (x y : ℤ) (a : ℕ) → sum_of_squares x y ≤ℤ pos (a * a) → unsigned_abs x ≤ a }
     ensures second { (x y : ℤ) (a : ℕ) → sum_of_squares x y ≤ℤ pos (a * a) → unsigned_abs y ≤ a }
-    ensures bounded { (x y : ℤ) (a b c : ℕ) → unsigned_abs x ≤ a → unsigned_abs y ≤ b → a * a + b * b ≤ c * c
+    ensures bounded { (x y : ℤ) (a b c : ℕ) → unsigned_abs x ≤ a → unsigned_abs y ≤ b
+        → a * a + b * b ≤ c * c
         → sum_of_squares x y ≤ℤ pos (c * c) }
     ensures monotone { (x y : ℤ) (a b : ℕ) → a ≤ b → sum_of_squares x y ≤ℤ pos (a * a)
         → sum_of_squares x y ≤ℤ pos (b * b) }
@@ -72,9 +74,11 @@ pub fn size_of_a_pair()
 pub fn floor_division()
     ensures lower { (z : ℤ) (n : ℕ) → 0 < n → (floor_div z n *ℤ pos n) ≤ℤ z }
     ensures upper { (z : ℤ) (n : ℕ) → 0 < n → z <ℤ ((floor_div z n +ℤ pos 1) *ℤ pos n) }
-    ensures only { (z q : ℤ) (n : ℕ) → 0 < n → (q *ℤ pos n) ≤ℤ z → z <ℤ ((q +ℤ pos 1) *ℤ pos n) → q ≡ floor_div z n }
+    ensures only { (z q : ℤ) (n : ℕ) → 0 < n → (q *ℤ pos n) ≤ℤ z → z <ℤ ((q +ℤ pos 1) *ℤ pos n)
+        → q ≡ floor_div z n }
     ensures monotone { (y z : ℤ) (n : ℕ) → 0 < n → y ≤ℤ z → floor_div y n ≤ℤ floor_div z n }
-    ensures multiple { (z q : ℤ) (n : ℕ) → 0 < n → floor_div (z +ℤ q *ℤ pos n) n ≡ floor_div z n +ℤ q }
+    ensures multiple { (z q : ℤ) (n : ℕ) → 0 < n
+        → floor_div (z +ℤ q *ℤ pos n) n ≡ floor_div z n +ℤ q }
 {}
 
 /// Half of the divisor added before, the floor is a nearest number: the divisor times it is within half of the divisor

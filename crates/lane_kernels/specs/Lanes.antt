@@ -26,5 +26,6 @@ total_below (suc n) f = total_below n f +ℤ f n
 -- from one place up to another the samples are the held sums of what was there and of b, and all others stay
 pub record HoldsSums (from upto : ℕ) (old b new : List Sample) : Type 0 where
   pub before : (n : ℕ) → n < from → sample_at new n ≡ sample_at old n
-  pub within : (n : ℕ) → from ≤ n → n < upto → sample_at new n ≡ held_sum (sample_at old n) (sample_at b n)
+  pub within : (n : ℕ) → from ≤ n → n < upto
+      → sample_at new n ≡ held_sum (sample_at old n) (sample_at b n)
   pub behind : (n : ℕ) → upto ≤ n → sample_at new n ≡ sample_at old n

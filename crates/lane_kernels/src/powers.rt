@@ -8,8 +8,8 @@ ghost use Rattle.fixed_complex.specs.Numbers.{NumbersWithin, number_at};
 use crate::lanes::{add_products, in_phase, quadrature, total};
 use fixed_complex::Sample;
 
-/// The sum of the squares of the sizes of at most 2^24 samples, `i*i + q*q` each (own). One is at most 2^31, so the sum of 2^24 of them
-/// fits.
+/// The sum of the squares of the sizes of at most 2^24 samples, `i*i + q*q` each (own). One is at most 2^31, so the sum
+/// of 2^24 of them fits.
 pub fn energy(a: &[Sample]) -> i64
     requires { length a.now ≤ 2 ^ 24 }
     ensures { result ≡ energy_of a.now }
@@ -24,7 +24,8 @@ pub fn energy(a: &[Sample]) -> i64
 // The squares of the sizes of the whole chunks' samples, summed in lanes.
 fn lane_powers(a: &[Sample]) -> [i64; 8]
     requires { length a.now ≤ 2 ^ 24 }
-    ensures total { total_of result ≡ total_below (length a.now / 8 * 8) (λ n. power_of (sample_at a.now n)) }
+    ensures total { total_of result
+        ≡ total_below (length a.now / 8 * 8) (λ n. power_of (sample_at a.now n)) }
     ensures within { NumbersWithin (2 ^ 52) result }
 {
     let mut sums = [0; 8];

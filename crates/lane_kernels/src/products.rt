@@ -31,7 +31,8 @@ fn lane_real_parts(a: &[Sample], b: &[Sample]) -> [i64; 8]
     requires short { length a.now ≤ 2 ^ 24 }
     requires long { length a.now ≡ length b.now }
     ensures total { total_of result
-        ≡ total_below (length a.now / 8 * 8) (λ n. (product_of (sample_at a.now n) (sample_at b.now n)).re) }
+        ≡ total_below (length a.now / 8 * 8) (λ n.
+        (product_of (sample_at a.now n) (sample_at b.now n)).re) }
     ensures within { NumbersWithin (2 ^ 52) result }
 {
     let mut sums = [0; 8];
@@ -47,7 +48,8 @@ fn lane_imaginary_parts(a: &[Sample], b: &[Sample]) -> [i64; 8]
     requires short { length a.now ≤ 2 ^ 24 }
     requires long { length a.now ≡ length b.now }
     ensures total { total_of result
-        ≡ total_below (length a.now / 8 * 8) (λ n. (product_of (sample_at a.now n) (sample_at b.now n)).im) }
+        ≡ total_below (length a.now / 8 * 8) (λ n.
+        (product_of (sample_at a.now n) (sample_at b.now n)).im) }
     ensures within { NumbersWithin (2 ^ 52) result }
 {
     let mut sums = [0; 8];

@@ -12,7 +12,8 @@ ghost use Rattle.plain_waves.specs.Nearness.{AreNearPlain};
 /// Samples behind samples are near plain ones behind plain ones where both lists are, and within a bound where both are
 /// (own).
 pub fn samples_behind_samples()
-    ensures near { (bound : ℕ) (front back : List Sample) (plain behind : List Cx) → AreNearPlain bound front plain
+    ensures near { (bound : ℕ) (front back : List Sample) (plain behind : List Cx)
+        → AreNearPlain bound front plain
         → AreNearPlain bound back behind → AreNearPlain bound (front ++ back) (plain ++ behind) }
     ensures within { (bound : ℕ) (front back : List Sample) → SamplesWithin bound front
         → SamplesWithin bound back → SamplesWithin bound (front ++ back) }
@@ -22,7 +23,8 @@ pub fn samples_behind_samples()
 /// body, and no component is larger than 25057 in size (own).
 pub fn sent_bodies()
     ensures near { (carriers : List Cx) → PairsWithin 954 carriers
-        → AreNearPlain 1 (all_times (sent_body (entry carriers))) (all_times (plain_body (entry carriers))) }
+        → AreNearPlain 1 (all_times (sent_body (entry carriers)))
+        (all_times (plain_body (entry carriers))) }
     ensures within { (carriers : List Cx) → PairsWithin 954 carriers → FitASample carriers
         → SamplesWithin 25057 (all_times (sent_body (entry carriers))) }
 {}

@@ -1,4 +1,5 @@
-//! The plain waveform of carriers, the samples that are sent of them, and how near they are (own). No call takes memory.
+//! The plain waveform of carriers, the samples that are sent of them, and how near they are (own). No call takes
+//! memory.
 #![tactic(auto)]
 
 ghost use Rattle.std.specs.Prelude.{◌≡◌, ℕ, ◌^◌, ◌<◌};

@@ -13,7 +13,7 @@ use Rattle.data_field.specs.Stages.{kept_at}
 -- the point of data number d: that of the d-th group of N_BPSC interleaved bits
 abbrev pub point_at : Modulation → List ℕ → ℕ → Cx
 point_at modulation bits d =
-    point_of modulation (take (bits_of_modulation modulation) (drop (bits_of_modulation modulation * d) bits))
+    let width = bits_of_modulation modulation in point_of modulation (take width (drop (width * d) bits))
 
 -- the 48 points of a symbol's interleaved bits
 unfoldable pub points_of : Modulation → List ℕ → List Cx
@@ -30,4 +30,5 @@ data_points rate seed psdu m = points_of_code rate (symbol_bits rate (kept_at ra
 -- the points of all DATA symbols, one symbol after another
 abbrev pub points_at : Rate → ℕ → List ℕ → List Cx
 points_at rate seed psdu =
-    flat_map (data_points rate seed psdu) (range_with_len 0 (symbol_count (row_of rate).field_bits (length psdu)))
+    flat_map (data_points rate seed psdu)
+    (range_with_len 0 (symbol_count (row_of rate).field_bits (length psdu)))

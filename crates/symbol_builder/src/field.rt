@@ -29,7 +29,8 @@ pub fn frame_field(
     requires octets { IsLength (length psdu.now) }
     ensures field { IfOk result (λ field. field.items ≡ field_at rate seed psdu.now) }
     ensures bits { IfOk result (λ field. AreBits field.items) }
-    ensures len { IfOk result (λ field. vec_len field ≡ field_length (row_of rate).field_bits (length psdu.now)) }
+    ensures len { IfOk result (λ field. vec_len field
+        ≡ field_length (row_of rate).field_bits (length psdu.now)) }
     ensures short { IfOk result (λ field. vec_len field ≤ 33000) }
 {
     let mut field = unscrambled_field(alloc, rate, psdu)?;
@@ -40,9 +41,11 @@ pub fn frame_field(
 // The field before scrambling: SERVICE, the PSDU, and zeros to the end.
 fn unscrambled_field(alloc: Global, rate: Rate, psdu: &[u8]) -> Result<Vec<u8>, AllocError>
     requires octets { IsLength (length psdu.now) }
-    ensures field { IfOk result (λ field. field.items ≡ plain_field (row_of rate).field_bits psdu.now) }
+    ensures field { IfOk result (λ field. field.items
+        ≡ plain_field (row_of rate).field_bits psdu.now) }
     ensures bits { IfOk result (λ field. AreBits field.items) }
-    ensures len { IfOk result (λ field. vec_len field ≡ field_length (row_of rate).field_bits (length psdu.now)) }
+    ensures len { IfOk result (λ field. vec_len field
+        ≡ field_length (row_of rate).field_bits (length psdu.now)) }
     ensures long { IfOk result (λ field. 22 + 8 * length psdu.now ≤ vec_len field) }
     ensures short { IfOk result (λ field. vec_len field ≤ 33000) }
 {

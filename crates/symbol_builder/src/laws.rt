@@ -38,7 +38,8 @@ pub fn bins_of_a_symbol()
 /// No component of the points of a symbol's bits is larger than 700 in size (own).
 pub fn sizes_of_points()
     ensures { (modulation : Modulation) (bits : List ℕ) → AreBits bits
-        → 48 * bits_of_modulation modulation ≤ length bits → PairsWithin 700 (points_of modulation bits) }
+        → 48 * bits_of_modulation modulation ≤ length bits
+        → PairsWithin 700 (points_of modulation bits) }
 {}
 
 /// The sent samples of symbol n, of any points with components of at most 700, are within 1 of the plain ones, and no

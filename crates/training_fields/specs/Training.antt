@@ -23,7 +23,8 @@ long_sign_of carrier = sign_at long_signs carrier
 
 -- what a carrier carries in the short and in the long training field
 abbrev pub short_carrier : ℤ → Cx
-short_carrier carrier = record { re = pos 954 *ℤ short_sign_of carrier; im = pos 954 *ℤ short_sign_of carrier }
+short_carrier carrier =
+    record { re = pos 954 *ℤ short_sign_of carrier; im = pos 954 *ℤ short_sign_of carrier }
 
 abbrev pub long_carrier : ℤ → Cx
 long_carrier carrier = record { re = pos 648 *ℤ long_sign_of carrier; im = pos 0 }
@@ -38,7 +39,8 @@ long_times body = map (λ time. body ((time + 32) % 64)) (range_with_len 0 160)
 
 -- both training fields; `body` makes 64 samples, or 64 plain pairs, of what the bins carry
 abbrev pub preamble_of : {A : Type 0} → ((ℕ → Cx) → ℕ → A) → List A
-preamble_of body = short_times (body (by_bin short_carrier)) ++ long_times (body (by_bin long_carrier))
+preamble_of body =
+    short_times (body (by_bin short_carrier)) ++ long_times (body (by_bin long_carrier))
 
 -- the template of the search: the plain waveform of both, rounded half up to samples
 abbrev pub template_of : List Sample

@@ -13,11 +13,12 @@ ghost use Rattle.plain_waves.specs.Bounds.{FitASample};
 ghost use Rattle.plain_waves.specs.Nearness.{AreNearPlain};
 ghost use Rattle.training_fields.specs.Training.{long_carrier, long_sign_of, long_times, preamble_of, short_carrier, short_sign_of, short_times, template_of};
 
-pub mod laws;
-
 use carrier_bins::carrier_in;
 use fixed_complex::{Cx, Sample};
 use plain_waves::plain_samples;
+
+pub mod laws;
+
 pub use plain_waves::sent_samples;
 
 // The signs of the carriers from -26 to 26: + for 1, - for -1, and 0.
