@@ -1,8 +1,11 @@
 -- What holds of bits.
-use Rattle.std.proofs.Common.{◌≡◌, ℕ, zero, suc, List, length, slice_index, bit_xor, inl, inr, refl, arith}
+use Rattle.std.proofs.Common.{◌≡◌, ℕ, zero, suc, List, [], ◌∷◌, length, slice_index, bit_xor, inl, inr, refl, arith}
 use Rattle.std.proofs.lemmas.Bool.{cases_lt}
 use Rattle.std.proofs.lemmas.List.{get_or_past}
-use Rattle.bit_lists.specs.Bits.{IsBit, AreBits, exclusive_or}
+use Rattle.std.proofs.lemmas.List.Elements.{All-append, All-map, All-nil}
+use Rattle.std.specs.Int.{bit_at}
+use Rattle.std.specs.List.{range_with_len}
+use Rattle.bit_lists.specs.Bits.{IsBit, AreBits, bits_of_octet, bits_of_octets, exclusive_or}
 
 -- an entry of a list of bits is a bit, and so is what is read past its end
 pub IsBit-slice_index : (bits : List ℕ) (place : ℕ) → AreBits bits → IsBit (slice_index bits place)
@@ -21,3 +24,13 @@ on_two_bits P none second first both a (suc (suc b)) p q = absurd (omega arith)
 -- one bit `^` another
 pub bit_xor_is : (a b : ℕ) → IsBit a → IsBit b → bit_xor a b ≡ exclusive_or a b
 bit_xor_is = on_two_bits (λ a b. bit_xor a b ≡ exclusive_or a b) refl refl refl refl
+
+-- the bits of octets are bits
+AreBits-bits_of_octet : (octet : ℕ) → AreBits (bits_of_octet octet)
+unfolding bits_of_octet
+AreBits-bits_of_octet octet = All-map IsBit (bit_at octet) (range_with_len 0 8) (λ k d within. omega arith)
+
+pub AreBits-bits_of_octets : (octets : List ℕ) → AreBits (bits_of_octets octets)
+AreBits-bits_of_octets [] = All-nil IsBit
+AreBits-bits_of_octets (octet ∷ octets) =
+    All-append IsBit (bits_of_octet octet) (bits_of_octets octets) (AreBits-bits_of_octet octet) (AreBits-bits_of_octets octets)

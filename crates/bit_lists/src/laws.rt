@@ -11,8 +11,10 @@ pub fn entries_of_bits()
 
 /// Octets are those of their bits, and bits, eight by eight, those of their octets (own).
 pub fn octets_and_bits()
-    ensures octets { (octets : List ℕ) → AreOctets octets → octets_of_bits (bits_of_octets octets) ≡ octets }
-    ensures bits { (bits : List ℕ) → AreBits bits → length bits % 8 ≡ 0 → bits_of_octets (octets_of_bits bits) ≡ bits }
+    ensures octets { (octets : List ℕ) → AreOctets octets
+        → octets_of_bits (bits_of_octets octets) ≡ octets }
+    ensures bits { (bits : List ℕ) → AreBits bits → length bits % 8 ≡ 0
+        → bits_of_octets (octets_of_bits bits) ≡ bits }
 {}
 
 /// A text has bits or a bad place, one of the two, and only one list of bits or one bad place; what is written of bits
@@ -23,5 +25,6 @@ pub fn bits_or_a_bad_place()
         ⊎ ((at : ℕ) × IsBadPlace text at) }
     ensures one_text { (text a b : List ℕ) → IsTextOf text a → IsTextOf text b → a ≡ b }
     ensures one_place { (text : List ℕ) (a b : ℕ) → IsBadPlace text a → IsBadPlace text b → a ≡ b }
-    ensures apart { (text bits : List ℕ) (at : ℕ) → AreBits bits → IsTextOf text bits → IsBadPlace text at → ⊥ }
+    ensures apart { (text bits : List ℕ) (at : ℕ) → AreBits bits → IsTextOf text bits
+        → IsBadPlace text at → ⊥ }
 {}

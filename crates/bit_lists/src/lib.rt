@@ -7,12 +7,15 @@ ghost use Rattle.bit_lists.specs.Text.{IsBadPlace, IsCharacter, IsTextOf, text_o
 ghost use Rattle.bit_lists.specs.declared.TextFault.TheVariants.{NoMemory};
 ghost use Rattle.byte_lanes.specs.Differences.{differences_of};
 
-pub mod laws;
-
 use byte_lanes::differences;
 use std::alloc::{AllocError, Global};
 use std::marker::Model;
 use thiserror::Error;
+
+pub mod laws;
+
+// The most octets that the kernel counts at once.
+const KERNEL_LIMIT: usize = 1 << 24;
 
 /// The bits of octets: eight bits per octet, least significant first (IEEE Std 802.11-2012, clause 18).
 /// The only error is want of memory.
@@ -41,9 +44,6 @@ pub fn put_text(alloc: Global, bits: &[u8]) -> Result<Vec<u8>, AllocError>
     text.push(b'\n')?;
     Ok(text)
 }
-
-// The most octets that the kernel counts at once.
-const KERNEL_LIMIT: usize = 1 << 24;
 
 /// A list of octets. Contracts see it as the list (own).
 #[derive(Drop)]

@@ -4,7 +4,7 @@ use Rattle.std.specs.Prelude.{count_ones, if◌then◌else◌, ◌==◌}
 use Rattle.std.specs.Simd.Lanes.{zip2, mask_l, top}
 use Rattle.std.proofs.lemmas.Simd.{ones-mask_l_cons, mask_l-mod, length-zip2}
 use Rattle.std.proofs.lemmas.List.{length-map}
-use Rattle.std.proofs.Math.Seq.{drop-cons, take-add, take-length}
+use Rattle.std.proofs.Math.Seq.{drop-cons, take-add}
 use Rattle.std.specs.List.{slice_range}
 use borrow.Rule.Simd.Lanes.{act2}
 use borrow.Table.Row.{s_int}
@@ -43,10 +43,6 @@ pub mask_counts : (xs ys : List ℕ) → length xs ≡ length ys → length xs �
 mask_counts xs ys h short =
     let long : length (map (top 7) (zip2 differ xs ys)) ≤ 64 = omega (arith, length-map (zip2 differ xs ys) (top 7), length-zip2 differ xs ys h) in
     ap count_ones (mask_l-mod (map (top 7) (zip2 differ xs ys)) 64 long) ∙ counts xs ys h
-
--- a list up to its length
-pub take-whole : (xs : List ℕ) (n : ℕ) → length xs ≡ n → take n xs ≡ xs
-take-whole xs n e = ap (λ k. take k xs) (sym e) ∙ take-length xs
 
 -- one list behind another
 differences-append : (xs ys us vs : List ℕ) → length xs ≡ length ys → differences_of (xs ++ us) (ys ++ vs) ≡ differences_of xs ys + differences_of us vs

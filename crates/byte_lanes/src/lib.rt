@@ -28,7 +28,8 @@ fn lane_differences(a: &[u8], b: &[u8]) -> usize
     requires short { length a.now ≤ 2 ^ 24 }
     requires long { length a.now ≡ length b.now }
     ensures count { result
-        ≡ differences_of (take (length a.now / 16 * 16) a.now) (take (length a.now / 16 * 16) b.now) }
+        ≡ differences_of (take (length a.now / 16 * 16) a.now)
+        (take (length a.now / 16 * 16) b.now) }
     ensures within { result ≤ length a.now / 16 * 16 }
 {
     let mut differences = 0;

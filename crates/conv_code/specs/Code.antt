@@ -1,4 +1,5 @@
--- The convolutional code of rate 1/2 (IEEE Std 802.11-2012, 18.3.5.6): generators 133 and 171, octal.
+-- The convolutional code of rate 1/2 (IEEE Std 802.11-2012, 18.3.5.6): generators 133 and 171,
+-- octal.
 use Rattle.std.specs.Prelude.{ℕ, ◌+◌, ◌-◌, ◌*◌, ◌%◌, ◌<◌, ◌≡◌, List, [], ◌∷◌, length, slice_index, nat_lt, if◌then◌else◌}
 use Rattle.std.specs.List.{flat_map, range_with_len}
 

@@ -5,4 +5,5 @@ use Rattle.bit_lists.specs.Bits.{exclusive_or}
 
 -- the exclusive or of two lists of one length, place by place
 abbrev pub exclusive_ors : List ℕ → List ℕ → List ℕ
-exclusive_ors u v = map (λ i. exclusive_or (slice_index u i) (slice_index v i)) (range_with_len 0 (length u))
+exclusive_ors u v =
+    map (λ i. exclusive_or (slice_index u i) (slice_index v i)) (range_with_len 0 (length u))

@@ -1,4 +1,5 @@
--- The bits of the DATA field (IEEE Std 802.11-2012, 18.3.5.1 to 18.3.5.5), for any number of field bits a symbol.
+-- The bits of the DATA field (IEEE Std 802.11-2012, 18.3.5.1 to 18.3.5.5), for any number of field
+-- bits a symbol.
 use Rattle.std.specs.Prelude.{ℕ, ◌+◌, ◌-◌, ◌*◌, List, ◌++◌, length, take, drop, replicate}
 use Rattle.bit_lists.specs.Bits.{bits_of_octets}
 use Rattle.rate_table.specs.Symbols.{symbol_count, tail_place}
@@ -20,4 +21,5 @@ with_tail place bits = take place bits ++ replicate 6 0 ++ drop (place + 6) bits
 
 -- the DATA field: scrambled with the seed's sequence, and then the tail set to 0
 abbrev pub data_field : ℕ → ℕ → List ℕ → List ℕ
-data_field field_bits seed psdu = with_tail (tail_place (length psdu)) (scrambled seed (plain_field field_bits psdu))
+data_field field_bits seed psdu =
+    with_tail (tail_place (length psdu)) (scrambled seed (plain_field field_bits psdu))

@@ -1,4 +1,5 @@
--- The bits of the DATA field after each stage, at a rate (IEEE Std 802.11-2012, 18.3.5.5 to 18.3.5.7).
+-- The bits of the DATA field after each stage, at a rate (IEEE Std 802.11-2012, 18.3.5.5 to
+-- 18.3.5.7).
 use Rattle.std.specs.Prelude.{ℕ, List, length}
 use Rattle.rate_table.specs.declared.Rate.{Rate}
 use Rattle.rate_table.specs.Table.{row_of}
@@ -23,4 +24,5 @@ kept_at rate seed psdu = kept_code (row_of rate).code_rate (field_at rate seed p
 -- the bits of all its symbols after interleaving
 abbrev pub interleaved_at : Rate → ℕ → List ℕ → List ℕ
 interleaved_at rate seed psdu =
-    interleaved_symbols rate (symbol_count (row_of rate).field_bits (length psdu)) (kept_at rate seed psdu)
+    interleaved_symbols rate (symbol_count (row_of rate).field_bits (length psdu))
+    (kept_at rate seed psdu)

@@ -6,7 +6,8 @@ ghost use Rattle.data_field.specs.Stages.{field_at, code_at, kept_at, interleave
 
 /// The DATA field at 6 Mb/s: 16 SERVICE bits, the octet, the tail and 18 bits of pad.
 pub fn scrambled_at_6()
-    ensures { characters_of (field_at R6 93 (0 ∷ [])) ≡ codes "011011000001100110101001000000110110100001010101" }
+    ensures { characters_of (field_at R6 93 (0 ∷ []))
+        ≡ codes "011011000001100110101001000000110110100001010101" }
 {}
 
 /// Its code, all of which is kept at 6 Mb/s.
@@ -17,7 +18,8 @@ pub fn kept_at_6()
 
 /// The kept code at 9 Mb/s.
 pub fn kept_at_9()
-    ensures { characters_of (kept_at R9 93 (0 ∷ [])) ≡ codes "001010110000100010100001001011001000001111101100" }
+    ensures { characters_of (kept_at R9 93 (0 ∷ []))
+        ≡ codes "001010110000100010100001001011001000001111101100" }
 {}
 
 /// The first bits of the first symbol at 6 Mb/s.

@@ -1,5 +1,5 @@
--- The way back through the two permutations, by the standard's formulas (IEEE Std 802.11-2012, 18.3.5.7). The contract
--- of `unplace` says that they lead to the place whose image is given.
+-- The way back through the two permutations, by the standard's formulas (IEEE Std 802.11-2012,
+-- 18.3.5.7). The contract of `unplace` says that they lead to the place whose image is given.
 use Rattle.std.specs.Prelude.{ℕ, ◌+◌, ◌-◌, ◌*◌, ◌/◌, ◌%◌}
 
 -- the place from which the second permutation fills place j

@@ -8,9 +8,9 @@ ghost use Rattle.rate_table.specs.Table.{row_of};
 ghost use Rattle.interleave_two.specs.Place.{first_place, second_place, group_of, interleaved_place, source_of, interleaved, deinterleaved};
 ghost use Rattle.interleave_two.specs.Source.{first_source, second_source};
 
-pub mod examples;
-
 use rate_table::Rate;
+
+pub mod examples;
 
 /// The place, below N_CBPS, to which bit k of a symbol goes, for k below N_CBPS.
 pub fn place(rate: Rate, k: usize) -> usize
@@ -41,8 +41,10 @@ pub fn interleave(rate: Rate, bits: &[u8; 288]) -> [u8; 288]
     ensures list { take (row_of rate).coded_bits result ≡ interleaved rate bits.now }
     ensures bits { AreBits result }
     ensures undone { deinterleaved rate result ≡ take (row_of rate).coded_bits bits.now }
-    ensures front { interleaved rate bits.now ≡ interleaved rate (take (row_of rate).coded_bits bits.now) }
-    ensures law { deinterleaved rate (interleaved rate bits.now) ≡ take (row_of rate).coded_bits bits.now }
+    ensures front { interleaved rate bits.now
+        ≡ interleaved rate (take (row_of rate).coded_bits bits.now) }
+    ensures law { deinterleaved rate (interleaved rate bits.now)
+        ≡ take (row_of rate).coded_bits bits.now }
 {
     let mut places = [0; 288];
     for j in 0..rate.coded_bits() {
@@ -61,8 +63,10 @@ pub fn deinterleave(rate: Rate, bits: &[u8; 288]) -> [u8; 288]
     ensures list { take (row_of rate).coded_bits result ≡ deinterleaved rate bits.now }
     ensures bits { AreBits result }
     ensures undone { interleaved rate result ≡ take (row_of rate).coded_bits bits.now }
-    ensures front { deinterleaved rate bits.now ≡ deinterleaved rate (take (row_of rate).coded_bits bits.now) }
-    ensures law { interleaved rate (deinterleaved rate bits.now) ≡ take (row_of rate).coded_bits bits.now }
+    ensures front { deinterleaved rate bits.now
+        ≡ deinterleaved rate (take (row_of rate).coded_bits bits.now) }
+    ensures law { interleaved rate (deinterleaved rate bits.now)
+        ≡ take (row_of rate).coded_bits bits.now }
 {
     let mut order = [0; 288];
     for k in 0..rate.coded_bits() {
@@ -84,7 +88,8 @@ fn first_place(rate: Rate, k: usize) -> usize
 // Where the second permutation puts bit i.
 fn second_place(rate: Rate, i: usize) -> usize
     requires { i < (row_of rate).coded_bits }
-    ensures place { result ≡ second_place (row_of rate).coded_bits (group_of (row_of rate).bits_per_carrier) i }
+    ensures place { result
+        ≡ second_place (row_of rate).coded_bits (group_of (row_of rate).bits_per_carrier) i }
     ensures within { result < (row_of rate).coded_bits }
 {
     let coded_bits = rate.coded_bits();
@@ -95,7 +100,8 @@ fn second_place(rate: Rate, i: usize) -> usize
 // The bit that the second permutation puts at place j.
 fn second_source(rate: Rate, j: usize) -> usize
     requires { j < (row_of rate).coded_bits }
-    ensures source { result ≡ second_source (row_of rate).coded_bits (group_of (row_of rate).bits_per_carrier) j }
+    ensures source { result
+        ≡ second_source (row_of rate).coded_bits (group_of (row_of rate).bits_per_carrier) j }
     ensures within { result < (row_of rate).coded_bits }
 {
     let coded_bits = rate.coded_bits();

@@ -1,5 +1,5 @@
--- Potentials (own): a number for each phase and state. The phase of a place of a list is the place modulo the period
--- of the code rate (IEEE Std 802.11-2012, 18.3.5.6).
+-- Potentials (own): a number for each phase and state. The phase of a place of a list is the place
+-- modulo the period of the code rate (IEEE Std 802.11-2012, 18.3.5.6).
 use Rattle.std.specs.Prelude.{ℕ, ◌+◌, ◌*◌, ◌%◌, ◌<◌, ◌≤◌, ◌≡◌, List, slice_index, if◌then◌else◌}
 use Rattle.rate_table.specs.declared.CodeRate.{CodeRate}
 use Rattle.rate_table.specs.declared.CodeRate.TheVariants.{Half, TwoThirds, ThreeQuarters}
@@ -25,7 +25,8 @@ pub record IsPotential (rate : CodeRate) (number : ℕ → ℕ → ℕ) : Type 0
   pub state_zero : (phase : ℕ) → phase < period_of rate → number phase 0 ≡ 0
   -- over a branch, a number falls by at most the branch's kept weight
   pub branches : (phase state bit : ℕ) → phase < period_of rate → state < 64 → IsBit bit
-      → number phase state ≤ number (next_phase rate phase) (state_after state bit) + branch_weight rate phase state bit
+      → number phase state
+      ≤ number (next_phase rate phase) (state_after state bit) + branch_weight rate phase state bit
   -- the branch with bit 1 from state 0, and the number that it leads to, make the least kept weight
   pub first_one : (phase : ℕ) → phase < period_of rate
       → least_weight rate ≤ branch_weight rate phase 0 1 + number (next_phase rate phase) 1

@@ -1,4 +1,5 @@
--- Kept weights and distances (own), over the kept places of the code (IEEE Std 802.11-2012, 18.3.5.6).
+-- Kept weights and distances (own), over the kept places of the code (IEEE Std 802.11-2012,
+-- 18.3.5.6).
 use Rattle.std.specs.Prelude.{ℕ, ◌==◌, List, slice_index, not}
 use Rattle.std.specs.List.{count_by, range_with_len}
 use Rattle.rate_table.specs.declared.CodeRate.{CodeRate}

@@ -25,8 +25,10 @@ pub fn least_kept_weight()
 
 /// So the kept codes of two such lists of one length are at least so far apart (own).
 pub fn least_distance()
-    ensures { (rate : CodeRate) (steps : ℕ) (u w : List ℕ) → IsClosed steps u → IsClosed steps w → u ≢ w
-        → least_weight rate ≤ distance_over (kept_count rate steps) (kept_code rate u) (kept_code rate w) }
+    ensures { (rate : CodeRate) (steps : ℕ) (u w : List ℕ) → IsClosed steps u → IsClosed steps w
+        → u ≢ w
+        → least_weight rate
+        ≤ distance_over (kept_count rate steps) (kept_code rate u) (kept_code rate w) }
 {}
 
 /// What a list costs against the pairs of marks of decisions: the sum over its kept code, which for hard decisions is
@@ -35,7 +37,8 @@ pub fn cost_over_kept_places()
     ensures sum { (rate : CodeRate) (full steps : ℕ) (decisions u : List ℕ) → length u ≡ steps
         → cost (costs_of_steps rate full decisions steps) u
         ≡ cost_of_decisions full decisions (kept_count rate steps) (kept_code rate u) }
-    ensures hard { (rate : CodeRate) (steps : ℕ) (decisions u : List ℕ) → length u ≡ steps → AreBits decisions
+    ensures hard { (rate : CodeRate) (steps : ℕ) (decisions u : List ℕ) → length u ≡ steps
+        → AreBits decisions
         → cost (costs_of_steps rate 1 decisions steps) u
         ≡ distance_over (kept_count rate steps) (kept_code rate u) decisions }
 {}
@@ -43,10 +46,12 @@ pub fn cost_over_kept_places()
 /// A list that ends in six zeros, and costs less than half of what the least kept weight can cost, is the nearest
 /// list (own).
 pub fn cheap_list_is_nearest()
-    ensures list { (rate : CodeRate) (full steps least : ℕ) (decisions u w : List ℕ) → IsClosed steps w
+    ensures list { (rate : CodeRate) (full steps least : ℕ) (decisions u w : List ℕ)
+        → IsClosed steps w
         → 2 * cost (costs_of_steps rate full decisions steps) w < full * least_weight rate
         → IsNearest (costs_of_steps rate full decisions steps) u least → u ≡ w }
-    ensures cost { (rate : CodeRate) (full steps least : ℕ) (decisions u w : List ℕ) → IsClosed steps w
+    ensures cost { (rate : CodeRate) (full steps least : ℕ) (decisions u w : List ℕ)
+        → IsClosed steps w
         → 2 * cost (costs_of_steps rate full decisions steps) w < full * least_weight rate
         → IsNearest (costs_of_steps rate full decisions steps) u least
         → least ≡ cost (costs_of_steps rate full decisions steps) w }
@@ -59,7 +64,8 @@ pub fn flips_are_repaired()
         → IsClosed steps w
         → distance_over (kept_count rate steps) (kept_code rate w) decisions ≤ flip_bound_of rate
         → IsNearest (costs_of_steps rate 1 decisions steps) u least → u ≡ w }
-    ensures distance { (rate : CodeRate) (steps least : ℕ) (decisions u w : List ℕ) → AreBits decisions
+    ensures distance { (rate : CodeRate) (steps least : ℕ) (decisions u w : List ℕ)
+        → AreBits decisions
         → IsClosed steps w
         → distance_over (kept_count rate steps) (kept_code rate w) decisions ≤ flip_bound_of rate
         → IsNearest (costs_of_steps rate 1 decisions steps) u least
@@ -69,10 +75,12 @@ pub fn flips_are_repaired()
 /// The same of soft decisions, 0 to 15, that cost at most 74, 44 or 37 against the list's kept code (own).
 pub fn soft_decisions_are_repaired()
     ensures list { (rate : CodeRate) (steps least : ℕ) (decisions u w : List ℕ) → IsClosed steps w
-        → cost_of_decisions 15 decisions (kept_count rate steps) (kept_code rate w) ≤ repaired_cost rate
+        → cost_of_decisions 15 decisions (kept_count rate steps) (kept_code rate w)
+        ≤ repaired_cost rate
         → IsNearest (costs_of_steps rate 15 decisions steps) u least → u ≡ w }
     ensures cost { (rate : CodeRate) (steps least : ℕ) (decisions u w : List ℕ) → IsClosed steps w
-        → cost_of_decisions 15 decisions (kept_count rate steps) (kept_code rate w) ≤ repaired_cost rate
+        → cost_of_decisions 15 decisions (kept_count rate steps) (kept_code rate w)
+        ≤ repaired_cost rate
         → IsNearest (costs_of_steps rate 15 decisions steps) u least
         → least ≡ cost_of_decisions 15 decisions (kept_count rate steps) (kept_code rate w) }
 {}
@@ -88,21 +96,26 @@ pub fn kept_code_of_front()
 
 /// The pairs of marks of decisions are made one by one, and decisions behind the kept places play no part (own).
 pub fn pairs_of_decisions()
-    ensures none { (rate : CodeRate) (full : ℕ) (decisions : List ℕ) → costs_of_steps rate full decisions 0 ≡ [] }
+    ensures none { (rate : CodeRate) (full : ℕ) (decisions : List ℕ)
+        → costs_of_steps rate full decisions 0 ≡ [] }
     ensures one_more { (rate : CodeRate) (full steps : ℕ) (decisions : List ℕ)
         → costs_of_steps rate full decisions (steps + 1)
         ≡ costs_of_steps rate full decisions steps ++ costs_of_step rate full decisions steps ∷ [] }
     ensures first_decisions { (rate : CodeRate) (full steps : ℕ) (decisions : List ℕ)
-        → costs_of_steps rate full (take (kept_count rate steps) decisions) steps ≡ costs_of_steps rate full decisions steps }
+        → costs_of_steps rate full (take (kept_count rate steps) decisions) steps
+        ≡ costs_of_steps rate full decisions steps }
 {}
 
 /// Decisions that are all 0 or full cost so many times what the hard decisions 0 and 1 cost, and have the same nearest
 /// list (own).
 pub fn full_decisions_are_hard()
-    ensures cost { (rate : CodeRate) (full steps : ℕ) (decisions u : List ℕ) → AreBits decisions → length u ≡ steps
+    ensures cost { (rate : CodeRate) (full steps : ℕ) (decisions u : List ℕ) → AreBits decisions
+        → length u ≡ steps
         → cost (costs_of_steps rate full (map (λ decision. full * decision) decisions) steps) u
         ≡ full * cost (costs_of_steps rate 1 decisions steps) u }
-    ensures nearest { (rate : CodeRate) (full steps least : ℕ) (decisions u : List ℕ) → AreBits decisions
+    ensures nearest { (rate : CodeRate) (full steps least : ℕ) (decisions u : List ℕ)
+        → AreBits decisions
         → 0 < full → IsNearest (costs_of_steps rate 1 decisions steps) u least
-        → IsNearest (costs_of_steps rate full (map (λ decision. full * decision) decisions) steps) u (full * least) }
+        → IsNearest (costs_of_steps rate full (map (λ decision. full * decision) decisions) steps)
+        u (full * least) }
 {}

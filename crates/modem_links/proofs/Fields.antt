@@ -7,6 +7,7 @@ use Rattle.bit_lists.specs.Bits.{AreBits, IsBit, bits_of_octet, bits_of_octets, 
 use Rattle.std.specs.Int.{bit_at}
 use Rattle.std.specs.List.{range_with_len}
 use Rattle.bit_lists.proofs.EightBits.{length-bits_of_octets}
+use Rattle.bit_lists.proofs.BitFacts.{AreBits-bits_of_octets}
 use Rattle.data_field.specs.Stages.{field_at}
 use Rattle.data_field.specs.Field.{data_field, field_length, plain_field, with_tail}
 use Rattle.kept_weights.specs.Weights.{distance_over}
@@ -152,14 +153,6 @@ front_names rate seed psdu is_seed =
           ∙ sym (get_or-take 7 front i 0 within));
     }
 
-octet_bits : (octet : ℕ) → AreBits (bits_of_octet octet)
-unfolding bits_of_octet
-octet_bits octet = All-map IsBit (bit_at octet) (range_with_len 0 8) (λ k d within. omega arith)
-
-octets_bits : (octets : List ℕ) → AreBits (bits_of_octets octets)
-octets_bits [] = λ k d within. absurd (omega arith)
-octets_bits (octet ∷ octets) = All-append IsBit (bits_of_octet octet) (bits_of_octets octets) (octet_bits octet) (octets_bits octets)
-
 changed_twice : (a b z : ℕ) → a ≡ b → b < 2 → b ≡ exclusive_or (exclusive_or a z) z
 changed_twice a b z same small = omega arith
 
@@ -173,7 +166,7 @@ front_has_psdu rate seed psdu =
     ext_get_or 0 (bits_of_octets psdu) (take (8 * length psdu) (drop 16 undone)) (length-bits_of_octets psdu ∙ sym count)
     (λ i within.
     let below : i < 8 * length psdu = omega (arith, length-bits_of_octets psdu) in
-    changed_twice (get_or (plain_field (row_of rate).field_bits psdu) (16 + i) 0) (get_or (bits_of_octets psdu) i 0) (scrambler_bit seed (16 + i)) (plain_psdu (row_of rate).field_bits psdu i below) (octets_bits psdu i 0 within)
+    changed_twice (get_or (plain_field (row_of rate).field_bits psdu) (16 + i) 0) (get_or (bits_of_octets psdu) i 0) (scrambler_bit seed (16 + i)) (plain_psdu (row_of rate).field_bits psdu i below) (AreBits-bits_of_octets psdu i 0 within)
     ∙ sym (ap (λ a. exclusive_or a (scrambler_bit seed (16 + i))) (front_at rate seed psdu (16 + i) (omega arith)))
     ∙ sym (scrambled_at seed front (16 + i) (omega (arith, length-front rate seed psdu)))
     ∙ sym (get_or-drop 16 undone i 0)

@@ -1,4 +1,5 @@
--- The field of decisions (own, over the code of IEEE Std 802.11-2012, 18.3.5.6, and the scrambler of 18.3.5.5).
+-- The field of decisions (own, over the code of IEEE Std 802.11-2012, 18.3.5.6, and the scrambler
+-- of 18.3.5.5).
 use Rattle.std.specs.Prelude.{◌≡◌, ℕ, ◌*◌, ◌≤◌, List, length, take, drop}
 use Rattle.bit_lists.specs.Bits.{octets_of_bits}
 use Rattle.data_field.specs.Stages.{field_at}
@@ -19,8 +20,8 @@ pub record NamesFront (number : ℕ) (bits : List ℕ) : Type 0 where
 abbrev pub psdu_in : ℕ → ℕ → List ℕ → List ℕ
 psdu_in octets number bits = octets_of_bits (take (8 * octets) (drop 16 (scrambled number bits)))
 
--- the field of the decisions of so many octets at a rate: the number that names the front of the list
--- of n_tail bits that is nearest to the first decisions, the octets in it, and its distance
+-- the field of the decisions of so many octets at a rate: the number that names the front of the
+-- list of n_tail bits that is nearest to the first decisions, the octets in it, and its distance
 pub record IsFieldOf (rate : Rate) (octets : ℕ) (decisions : List ℕ) (number : ℕ) (psdu : List ℕ)
     (least : ℕ) : Type 0 where
   pub bits : List ℕ
@@ -32,4 +33,5 @@ pub record IsFieldOf (rate : Rate) (octets : ℕ) (decisions : List ℕ) (number
 -- how many decisions differ from the kept code of the field of a PSDU, up to its tail
 abbrev pub flips : Rate → ℕ → List ℕ → List ℕ → ℕ
 flips rate seed psdu decisions =
-    changes (row_of rate).code_rate (bits_through_tail (length psdu)) (field_at rate seed psdu) decisions
+    changes (row_of rate).code_rate (bits_through_tail (length psdu)) (field_at rate seed psdu)
+    decisions

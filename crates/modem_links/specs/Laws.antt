@@ -10,7 +10,8 @@ use Rattle.modem_links.specs.Fields.{IsFieldOf, flips}
 abbrev pub SomeField : Type 0
 SomeField =
     (rate : Rate) (octets : ℕ) (decisions : List ℕ)
-    → (number : ℕ) × ((psdu : List ℕ) × ((least : ℕ) × IsFieldOf rate octets decisions number psdu least))
+    → (number : ℕ)
+    × ((psdu : List ℕ) × ((least : ℕ) × IsFieldOf rate octets decisions number psdu least))
 
 -- and only one
 abbrev pub OneField : Type 0
@@ -22,6 +23,7 @@ OneField =
 -- where few decisions differ from the kept code of a field, up to its tail, it is theirs
 abbrev pub FewFlips : Type 0
 FewFlips =
-    (rate : Rate) (seed : ℕ) (psdu decisions : List ℕ) → IsSeed seed → AreOctets psdu → AreBits decisions
+    (rate : Rate) (seed : ℕ) (psdu decisions : List ℕ) → IsSeed seed → AreOctets psdu
+    → AreBits decisions
     → flips rate seed psdu decisions ≤ (row_of rate).flip_bound
     → IsFieldOf rate (length psdu) decisions seed psdu (flips rate seed psdu decisions)

@@ -34,19 +34,23 @@ pub fn few_flips()
 /// 320 and DATA symbol m at 400 + 80 m (IEEE Std 802.11-2012, 18.3.2.1).
 pub fn places_of_a_frame()
     ensures sent_length { (rate : Rate) (seed : ℕ) (psdu : List ℕ)
-        → length (sent_frame rate seed psdu) ≡ 400 + 80 * symbol_count (row_of rate).field_bits (length psdu) }
+        → length (sent_frame rate seed psdu)
+        ≡ 400 + 80 * symbol_count (row_of rate).field_bits (length psdu) }
     ensures plain_length { (rate : Rate) (seed : ℕ) (psdu : List ℕ)
-        → length (plain_frame rate seed psdu) ≡ 400 + 80 * symbol_count (row_of rate).field_bits (length psdu) }
+        → length (plain_frame rate seed psdu)
+        ≡ 400 + 80 * symbol_count (row_of rate).field_bits (length psdu) }
     ensures sent_preamble { (rate : Rate) (seed : ℕ) (psdu : List ℕ) (t : ℕ) → t < 320
         → sample_at (sent_frame rate seed psdu) t ≡ sample_at (preamble_of sent_body) t }
     ensures plain_preamble { (rate : Rate) (seed : ℕ) (psdu : List ℕ) (t : ℕ) → t < 320
         → entry (plain_frame rate seed psdu) t ≡ entry (preamble_of plain_body) t }
     ensures sent_symbols { (rate : Rate) (seed : ℕ) (psdu : List ℕ) (n t : ℕ)
         → n ≤ symbol_count (row_of rate).field_bits (length psdu) → t < 80
-        → sample_at (sent_frame rate seed psdu) (320 + 80 * n + t) ≡ sent_body (frame_bin rate seed psdu n) ((t + 48) % 64) }
+        → sample_at (sent_frame rate seed psdu) (320 + 80 * n + t)
+        ≡ sent_body (frame_bin rate seed psdu n) ((t + 48) % 64) }
     ensures plain_symbols { (rate : Rate) (seed : ℕ) (psdu : List ℕ) (n t : ℕ)
         → n ≤ symbol_count (row_of rate).field_bits (length psdu) → t < 80
-        → entry (plain_frame rate seed psdu) (320 + 80 * n + t) ≡ plain_body (frame_bin rate seed psdu n) ((t + 48) % 64) }
+        → entry (plain_frame rate seed psdu) (320 + 80 * n + t)
+        ≡ plain_body (frame_bin rate seed psdu n) ((t + 48) % 64) }
 {}
 
 /// The sent samples of every frame are within 1 of its plain waveform, and no component is larger than 25057 in size
@@ -54,5 +58,6 @@ pub fn places_of_a_frame()
 pub fn sent_frames()
     ensures near { (rate : Rate) (seed : ℕ) (psdu : List ℕ)
         → AreNearPlain 1 (sent_frame rate seed psdu) (plain_frame rate seed psdu) }
-    ensures within { (rate : Rate) (seed : ℕ) (psdu : List ℕ) → SamplesWithin 25057 (sent_frame rate seed psdu) }
+    ensures within { (rate : Rate) (seed : ℕ) (psdu : List ℕ)
+        → SamplesWithin 25057 (sent_frame rate seed psdu) }
 {}

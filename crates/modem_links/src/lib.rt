@@ -1,12 +1,6 @@
 //! Both ends of the link over whole fields and frames (IEEE Std 802.11-2012, 18.3).
 #![tactic(auto)]
 
-mod frames;
-pub mod laws;
-mod marks;
-#[cfg(test)]
-mod tests;
-
 ghost use Rattle.std.specs.Prelude.{◌≡◌, ℕ, ◌+◌, ◌*◌, ◌≤◌, ◌⊎◌, List, length, take, drop, vec_len, IfOk, OnOk, OnErr};
 ghost use Rattle.bit_lists.specs.Bits.{AreBits, AreOctets, bits_of_octets};
 ghost use Rattle.data_field.specs.Field.{field_length};
@@ -19,7 +13,6 @@ ghost use Rattle.rate_table.specs.Table.{row_of};
 
 use bit_lists::{Octets, bytes_of};
 use conv_code::encode;
-pub use frames::{SendFault, frame_samples, interleaved_symbol, points_of_code, send, signal_code};
 use modem_ports::Steps;
 use ofdm_scrambler::{Seed, descramble_in_place, seed_of_front};
 use puncture_map::puncture;
@@ -27,6 +20,12 @@ use rate_table::Rate;
 use std::alloc::{AllocError, Global};
 use symbol_builder::frame_field;
 use viterbi_lanes::Trellis;
+
+mod frames;
+pub mod laws;
+mod marks;
+
+pub use frames::{SendFault, frame_samples, interleaved_symbol, points_of_code, send, signal_code};
 
 /// What a field of decisions holds: the number that names its front, 0 to 127, its PSDU, and how many decisions differ
 /// from it (own).
@@ -44,7 +43,8 @@ pub fn coded(alloc: Global, rate: Rate, seed: Seed, psdu: &[u8]) -> Result<Vec<u
     ensures kept { IfOk result (λ kept. kept.items ≡ kept_at rate seed psdu.now) }
     ensures bits { IfOk result (λ kept. AreBits kept.items) }
     ensures len { IfOk result (λ kept.
-        length kept.items ≡ symbol_count (row_of rate).field_bits (length psdu.now) * (row_of rate).coded_bits) }
+        length kept.items
+        ≡ symbol_count (row_of rate).field_bits (length psdu.now) * (row_of rate).coded_bits) }
 {
     let field = frame_field(alloc, rate, seed, psdu)?;
     let code = encode(alloc, &field)?;
@@ -63,13 +63,17 @@ pub fn decode_field(
 ) -> Result<Field, AllocError>
     requires octets { IsLength octets }
     requires bits { AreBits decisions.now }
-    requires whole { length decisions.now ≡ symbol_count (row_of rate).field_bits octets * (row_of rate).coded_bits }
-    ensures field { IfOk result (λ field. IsFieldOf rate octets decisions.now field.seed field.psdu field.distance) }
+    requires whole { length decisions.now
+        ≡ symbol_count (row_of rate).field_bits octets * (row_of rate).coded_bits }
+    ensures field { IfOk result
+        (λ field. IsFieldOf rate octets decisions.now field.seed field.psdu field.distance) }
 
     // where at most `flip_bound` decisions differ from the kept code of a field, up to its tail, that field comes back
-    ensures repaired { IfOk result (λ field. (seed : ℕ) (psdu : List ℕ) → IsSeed seed → AreOctets psdu
+    ensures repaired { IfOk result (λ field. (seed : ℕ) (psdu : List ℕ) → IsSeed seed
+        → AreOctets psdu
         → length psdu ≡ octets → flips rate seed psdu decisions.now ≤ (row_of rate).flip_bound
-        → (field.seed ≡ seed) × (field.psdu ≡ psdu) × (field.distance ≡ flips rate seed psdu decisions.now)) }
+        → (field.seed ≡ seed) × (field.psdu ≡ psdu)
+        × (field.distance ≡ flips rate seed psdu decisions.now)) }
     ensures counted { OnOk result (steps.new ≡ raised_by (bits_through_tail octets) steps.old) }
     ensures counted_at_most { OnErr result ((steps.new ≡ steps.old)
         ⊎ (steps.new ≡ raised_by (bits_through_tail octets) steps.old)) }
@@ -98,10 +102,12 @@ fn read_field(alloc: Global, octets: u16, bits: &mut [u8]) -> Result<(u8, Octets
     requires bits { AreBits bits.old }
     requires long { length bits.old ≡ bits_through_tail octets }
     ensures names { IfOk result (λ read. NamesFront read.0 bits.old) }
-    ensures no_other { IfOk result (λ read. (number : ℕ) → NamesFront number bits.old → number ≡ read.0) }
+    ensures no_other { IfOk result (λ read. (number : ℕ) → NamesFront number bits.old
+        → number ≡ read.0) }
     ensures psdu { IfOk result (λ read. read.1 ≡ psdu_in octets read.0 bits.old) }
     ensures no_other_psdu { IfOk result (λ read. (psdu : List ℕ) → AreOctets psdu
-        → bits_of_octets psdu ≡ take (8 * octets) (drop 16 (scrambled read.0 bits.old)) → psdu ≡ read.1) }
+        → bits_of_octets psdu ≡ take (8 * octets) (drop 16 (scrambled read.0 bits.old))
+        → psdu ≡ read.1) }
 {
     let mut front = [0; 7];
     front.copy_from_slice(&bits[..7]);
@@ -110,3 +116,6 @@ fn read_field(alloc: Global, octets: u16, bits: &mut [u8]) -> Result<(u8, Octets
     let psdu = bytes_of(alloc, &bits[16..16 + 8 * usize::from(octets)])?;
     Ok((seed, psdu))
 }
+
+#[cfg(test)]
+mod tests;

@@ -127,7 +127,8 @@ pub fn seed_of_front(front: &[u8; 7]) -> u8
     requires { AreBits front.now }
     ensures begins { scrambler_sequence result 7 ≡ front.now }
     ensures seven_bits { result ≤ 127 }
-    ensures no_other { (number : ℕ) → number ≤ 127 → scrambler_sequence number 7 ≡ front.now → number ≡ result }
+    ensures no_other { (number : ℕ) → number ≤ 127 → scrambler_sequence number 7 ≡ front.now
+        → number ≡ result }
     ensures zero { (result ≡ 0) ↔ (front.now ≡ replicate 7 0) }
 {
     let [z0, z1, z2, z3, z4, z5, z6] = *front;

@@ -1,5 +1,5 @@
--- Puncturing (IEEE Std 802.11-2012, 18.3.5.6): which places of the code are kept. Periods are counted from the first
--- bit of the field, and run through it without a restart.
+-- Puncturing (IEEE Std 802.11-2012, 18.3.5.6): which places of the code are kept. Periods are
+-- counted from the first bit of the field, and run through it without a restart.
 use Rattle.std.specs.Prelude.{ℕ, ◌+◌, ◌*◌, ◌%◌, ◌==◌, ◌||◌, Bool, true, List, length, map, filter, nat_lt, slice_index}
 use Rattle.std.specs.List.{range_with_len}
 use Rattle.conv_code.specs.Code.{code_of}
@@ -7,8 +7,8 @@ use Rattle.rate_table.specs.declared.CodeRate.{CodeRate}
 use Rattle.rate_table.specs.declared.CodeRate.TheVariants.{Half, TwoThirds, ThreeQuarters}
 use Rattle.rate_table.specs.Symbols.{ceiling}
 
--- whether a place of the code is kept: all at 1/2; A1 B1 A2 of every four places at 2/3; A1 B1 A2 B3
--- of every six at 3/4
+-- whether a place of the code is kept: all at 1/2; A1 B1 A2 of every four places at 2/3; A1 B1 A2
+-- B3 of every six at 3/4
 abbrev pub is_kept : CodeRate → ℕ → Bool
 is_kept Half place = true
 is_kept TwoThirds place = nat_lt (place % 4) 3
@@ -40,6 +40,7 @@ period_of Half = 1
 period_of TwoThirds = 2
 period_of ThreeQuarters = 3
 
--- the same count by periods (own): a kept bit for each step, and one more for each period that is begun
+-- the same count by periods (own): a kept bit for each step, and one more for each period that is
+-- begun
 abbrev pub count_by_periods : CodeRate → ℕ → ℕ
 count_by_periods rate steps = steps + ceiling steps (period_of rate)

@@ -7,7 +7,8 @@ use Rattle.rate_table.specs.declared.Rate.{Rate}
 use Rattle.rate_table.specs.Table.{row_of}
 use Rattle.puncture_map.specs.Kept.{kept_list}
 
--- of the steps of so many symbols of any rate with this code rate, so many times N_CBPS places are kept
+-- of the steps of so many symbols of any rate with this code rate, so many times N_CBPS places are
+-- kept
 abbrev pub CountsWholeSymbols : CodeRate → ℕ → ℕ → Type 0
 CountsWholeSymbols code_rate steps count =
     (rate : Rate) (symbols : ℕ) → (row_of rate).code_rate ≡ code_rate

@@ -11,7 +11,8 @@ ghost use Rattle.puncture_map.specs.Kept.{is_kept, kept_count, rank};
 pub fn kept_places_are_counted()
     ensures one_more { (rate : CodeRate) (place : ℕ)
         → rank rate (place + 1) ≡ rank rate place + (if is_kept rate place then 1 else 0) }
-    ensures within { (rate : CodeRate) (place steps : ℕ) → place < 2 * steps → is_kept rate place ≡ true
+    ensures within { (rate : CodeRate) (place steps : ℕ) → place < 2 * steps
+        → is_kept rate place ≡ true
         → rank rate place < kept_count rate steps }
     ensures rises { (rate : CodeRate) (fewer steps : ℕ) → fewer ≤ steps
         → kept_count rate fewer ≤ kept_count rate steps }

@@ -2,8 +2,6 @@
 //! has two places, A and then B. Periods run through the whole field without a restart.
 #![tactic(auto)]
 
-pub mod laws;
-
 ghost use Rattle.std.specs.Prelude.{◌≡◌, ℕ, ◌*◌, ◌≤◌, ◌^◌, IfOk, length, vec_len};
 ghost use Rattle.bit_lists.specs.Bits.{AreBits};
 ghost use Rattle.puncture_map.specs.Kept.{is_kept, kept_count, kept_list, period_of, count_by_periods};
@@ -11,6 +9,8 @@ ghost use Rattle.puncture_map.specs.WholeSymbols.{CountsWholeSymbols, LeavesWhol
 
 use rate_table::CodeRate;
 use std::alloc::{AllocError, Global};
+
+pub mod laws;
 
 /// Whether a place of the code is kept, that is sent (IEEE Std 802.11-2012, 18.3.5.6). Takes no memory.
 pub fn kept(rate: CodeRate, place: usize) -> bool

@@ -9,7 +9,8 @@ most_octets = 4095
 abbrev pub IsLength : ℕ → Type 0
 IsLength octets = (1 ≤ octets) × (octets ≤ most_octets)
 
--- the place of the tail's first bit in a DATA field of so many octets: 16 SERVICE bits and 8 an octet stand before it
+-- the place of the tail's first bit in a DATA field of so many octets: 16 SERVICE bits and 8 an
+-- octet stand before it
 abbrev pub tail_place : ℕ → ℕ
 tail_place octets = 16 + 8 * octets
 

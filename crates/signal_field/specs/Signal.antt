@@ -13,7 +13,8 @@ bits_of_number count number = map (bit_at number) (range_with_len 0 count)
 abbrev pub rate_bits : Rate → List ℕ
 rate_bits rate = bits_of_number 4 (row_of rate).pattern
 
--- bits 0 to 16: R1 to R4, the reserved bit (18.3.4.4), and the 12 bits of LENGTH, the least significant first (18.3.4.3)
+-- bits 0 to 16: R1 to R4, the reserved bit (18.3.4.4), and the 12 bits of LENGTH, the least
+-- significant first (18.3.4.3)
 unfoldable pub front_bits_of : Rate → ℕ → ℕ → List ℕ
 front_bits_of rate length reserved = rate_bits rate ++ reserved ∷ bits_of_number 12 length
 

@@ -12,7 +12,8 @@ pub fn even_sum()
 
 /// The bits determine the rate, LENGTH and the reserved bit (IEEE Std 802.11-2012, 18.3.4).
 pub fn bits_determine_header()
-    ensures { (rate rate' : Rate) (length length' reserved reserved' : ℕ) → length < 2 ^ 12 → length' < 2 ^ 12
+    ensures { (rate rate' : Rate) (length length' reserved reserved' : ℕ) → length < 2 ^ 12
+        → length' < 2 ^ 12
         → header_bits_of rate length reserved ≡ header_bits_of rate' length' reserved'
         → (rate ≡ rate') × (length ≡ length') × (reserved ≡ reserved') }
 {}

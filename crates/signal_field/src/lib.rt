@@ -44,7 +44,8 @@ pub fn header_bits(header: &Header) -> [u8; 24]
 pub fn header_code(header: &Header) -> [u8; 48]
     requires octets { IsLength header.now.length }
     requires reserved { IsBit header.now.reserved }
-    ensures list { result ≡ code_of (header_bits_of header.now.rate header.now.length header.now.reserved) }
+    ensures list { result
+        ≡ code_of (header_bits_of header.now.rate header.now.length header.now.reserved) }
     ensures bits { AreBits result }
 {
     let bits = header_bits(header);

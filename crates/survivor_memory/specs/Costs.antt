@@ -1,5 +1,6 @@
--- What a list of bits costs against pairs of marks (own), by the code of IEEE Std 802.11-2012, 18.3.5.6. A pair of marks is
--- given by what its marks for A and B cost, each at the bit 0 and at the bit 1.
+-- What a list of bits costs against pairs of marks (own), by the code of IEEE Std 802.11-2012,
+-- 18.3.5.6. A pair of marks is given by what its marks for A and B cost, each at the bit 0 and at
+-- the bit 1.
 use Rattle.std.specs.Prelude.{ℕ, ◌+◌, ◌*◌, ◌<◌, ◌≤◌, ◌==◌, List, All, max, if◌then◌else◌}
 use Rattle.std.specs.List.{enumerate_from, sum_by}
 use Rattle.conv_code.specs.Code.{parity_a, parity_b}
@@ -11,9 +12,12 @@ price pair a b =
     (if a == 0 then pair.first_zero else pair.first_one)
     + (if b == 0 then pair.second_zero else pair.second_one)
 
--- the cost of a list of bits: the sum, over the pairs, of what each costs at the two parities of its place
+-- the cost of a list of bits: the sum, over the pairs, of what each costs at the two parities of
+-- its place
 unfoldable pub cost : List PairCosts → List ℕ → ℕ
-cost pairs u = sum_by (λ (place, pair). price pair (parity_a u place) (parity_b u place)) (enumerate_from 0 pairs)
+cost pairs u =
+    sum_by (λ (place, pair). price pair (parity_a u place) (parity_b u place))
+    (enumerate_from 0 pairs)
 
 -- the most that a pair can cost
 abbrev pub most_cost : PairCosts → ℕ

@@ -42,7 +42,8 @@ pub fn branches_from_lower(costs: PairCosts) -> u8x64
 pub fn branches_from_higher(costs: PairCosts) -> u8x64
     requires { IsLight costs }
     ensures { (s : ℕ) → s < 64
-        → slice_index result s ≡ price costs (branch_a (s / 2 + 32) (s % 2)) (branch_b (s / 2 + 32) (s % 2)) }
+        → slice_index result s
+        ≡ price costs (branch_a (s / 2 + 32) (s % 2)) (branch_b (s / 2 + 32) (s % 2)) }
 {
     let first = chosen(
         u8x64::from_array(A_FROM_LOWER),
@@ -84,15 +85,18 @@ pub fn sums(entries: u8x64, costs: u8x64) -> u8x64
 
 /// A number with a bit for each lane, which is set where the second is less.
 pub fn second_less(first: u8x64, second: u8x64) -> u64
-    ensures set { (s : ℕ) → s < 64 → slice_index second s < slice_index first s → bit_at result s ≡ 1 }
-    ensures clear { (s : ℕ) → s < 64 → slice_index first s ≤ slice_index second s → bit_at result s ≡ 0 }
+    ensures set { (s : ℕ) → s < 64 → slice_index second s < slice_index first s
+        → bit_at result s ≡ 1 }
+    ensures clear { (s : ℕ) → s < 64 → slice_index first s ≤ slice_index second s
+        → bit_at result s ≡ 0 }
 {
     second.simd_lt(first).to_bitmask()
 }
 
 /// Lane by lane, the lesser of two.
 pub fn lesser(first: u8x64, second: u8x64) -> u8x64
-    ensures { (s : ℕ) → s < 64 → slice_index result s ≡ min (slice_index first s) (slice_index second s) }
+    ensures { (s : ℕ) → s < 64
+        → slice_index result s ≡ min (slice_index first s) (slice_index second s) }
 {
     first.simd_min(second)
 }

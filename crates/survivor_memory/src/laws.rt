@@ -7,7 +7,8 @@ ghost use Rattle.survivor_memory.specs.Survivors.{DifferByAtMost, Holds, MemoryV
 
 /// Pairs have at most one nearest list, and one least cost (own).
 pub fn one_nearest()
-    ensures { (pairs : List PairCosts) (u v : List ℕ) (d e : ℕ) → IsNearest pairs u d → IsNearest pairs v e
+    ensures { (pairs : List PairCosts) (u v : List ℕ) (d e : ℕ) → IsNearest pairs u d
+        → IsNearest pairs v e
         → (u ≡ v) × (d ≡ e) }
 {}
 
@@ -19,6 +20,7 @@ pub fn some_nearest()
 
 /// Once six pairs are held, the entries of any two states differ by at most what six pairs can cost (own).
 pub fn entries_differ()
-    ensures { (memory : MemoryView) (pairs : List PairCosts) (most : ℕ) → Holds memory pairs → CostAtMost most pairs
+    ensures { (memory : MemoryView) (pairs : List PairCosts) (most : ℕ) → Holds memory pairs
+        → CostAtMost most pairs
         → 6 ≤ length pairs → DifferByAtMost (6 * most) memory.entries }
 {}

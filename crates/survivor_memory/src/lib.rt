@@ -2,11 +2,6 @@
 //! costs, and the nearest list that they lead to.
 #![tactic(auto)]
 
-mod lanes;
-pub mod laws;
-#[cfg(test)]
-mod tests;
-
 ghost use Rattle.std.specs.Prelude.{◌≡◌, ℕ, ◌+◌, ◌*◌, ◌<◌, ◌≤◌, ◌^◌, List, [], ◌∷◌, ◌++◌, length, replicate, IfOk};
 ghost use Rattle.survivor_memory.specs.declared.PairCosts.{PairCosts};
 ghost use Rattle.survivor_memory.specs.Costs.{CostAtMost, IsLight};
@@ -16,6 +11,9 @@ ghost use Rattle.survivor_memory.specs.Survivors.{AreEntries, DifferByAtMost, Ho
 use std::alloc::{AllocError, Global};
 use std::marker::Model;
 use std::simd::prelude::*;
+
+mod lanes;
+pub mod laws;
 
 /// What a pair of marks costs: its first mark, for A, and its second, for B, each at the bit 0 and at the bit 1 (own).
 #[derive(Clone, Copy, Debug, PartialEq, Eq)]
@@ -85,10 +83,12 @@ impl SurvivorMemory {
     pub fn step(&mut self, costs: PairCosts)
         requires room { length self.old.rows < self.old.room }
         requires light { IsLight costs }
-        ensures appended { (pairs : List PairCosts) → Holds self.old pairs → Holds self.new (pairs ++ costs ∷ []) }
+        ensures appended { (pairs : List PairCosts) → Holds self.old pairs
+            → Holds self.new (pairs ++ costs ∷ []) }
         ensures held { length self.new.rows ≡ length self.old.rows + 1 }
         ensures entries { AreEntries self.new.entries }
-        ensures differ { (pairs : List PairCosts) (most : ℕ) → Holds self.new pairs → CostAtMost most pairs
+        ensures differ { (pairs : List PairCosts) (most : ℕ) → Holds self.new pairs
+            → CostAtMost most pairs
             → 6 ≤ length pairs → DifferByAtMost (6 * most) self.new.entries }
         ensures room { self.new.room ≡ self.old.room }
     {
@@ -108,7 +108,8 @@ impl SurvivorMemory {
     pub fn finish(&mut self, out: &mut [u8]) -> u32
         requires enough { 6 ≤ length self.old.rows }
         requires places { length out.old ≡ length self.old.rows }
-        ensures nearest { (pairs : List PairCosts) → Holds self.old pairs → IsNearest pairs out.new result }
+        ensures nearest { (pairs : List PairCosts) → Holds self.old pairs
+            → IsNearest pairs out.new result }
         ensures holds { Holds self.new [] }
         ensures entries { AreEntries self.new.entries }
         ensures room { self.new.room ≡ self.old.room }
@@ -155,3 +156,6 @@ fn follow(rows: &[u64], out: &mut [u8])
         state = state / 2 + 32 * back as u8;
     }
 }
+
+#[cfg(test)]
+mod tests;

@@ -21,7 +21,8 @@ mark_at rate decisions place =
 
 -- the pair of marks of a step, for A and for B
 unfoldable pub marks_at : CodeRate → List ℕ → ℕ → Mark × Mark
-marks_at rate decisions step = (mark_at rate decisions (2 * step), mark_at rate decisions (2 * step + 1))
+marks_at rate decisions step =
+    (mark_at rate decisions (2 * step), mark_at rate decisions (2 * step + 1))
 
 -- the pairs of marks of so many steps
 abbrev pub marks_of : CodeRate → List ℕ → ℕ → List (Mark × Mark)

@@ -1,4 +1,5 @@
--- Marks, and the nearest list to pairs of them (own), by the code of IEEE Std 802.11-2012, 18.3.5.6.
+-- Marks, and the nearest list to pairs of them (own), by the code of IEEE Std 802.11-2012,
+-- 18.3.5.6.
 use Rattle.std.specs.Prelude.{ℕ, ◌==◌, Bool, false, List, [], ◌∷◌, map, length, count_by, if◌then◌else◌}
 use Rattle.std.specs.List.{flat_map, zip}
 use Rattle.conv_code.specs.Code.{code_of}
@@ -18,7 +19,8 @@ differs Absent bit = false
 abbrev pub by_place : List (Mark × Mark) → List Mark
 by_place marks = flat_map (λ (a, b). a ∷ b ∷ []) marks
 
--- the distance of a list of bits: the number of places whose mark is 0 or 1 and differs from the list's code
+-- the distance of a list of bits: the number of places whose mark is 0 or 1 and differs from the
+-- list's code
 unfoldable pub distance : List (Mark × Mark) → List ℕ → ℕ
 distance marks u = count_by (λ (mark, bit). differs mark bit) (zip (by_place marks) (code_of u))
 

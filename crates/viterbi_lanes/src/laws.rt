@@ -18,13 +18,15 @@ pub use kept_weights::laws::{least_kept_weight, potentials};
 pub fn distance_is_cost()
     ensures distance { (marks : List (Mark × Mark)) (u : List ℕ) → length u ≡ length marks
         → distance marks u ≡ cost (map costs_of marks) u }
-    ensures nearest { (marks : List (Mark × Mark)) (u : List ℕ) (least : ℕ) → IsNearest (map costs_of marks) u least
+    ensures nearest { (marks : List (Mark × Mark)) (u : List ℕ) (least : ℕ)
+        → IsNearest (map costs_of marks) u least
         → IsNearestTo marks u least }
 {}
 
 /// Pairs of marks have at most one nearest list, and one least distance (own).
 pub fn one_nearest()
-    ensures { (marks : List (Mark × Mark)) (u v : List ℕ) (d e : ℕ) → IsNearestTo marks u d → IsNearestTo marks v e
+    ensures { (marks : List (Mark × Mark)) (u v : List ℕ) (d e : ℕ) → IsNearestTo marks u d
+        → IsNearestTo marks v e
         → (u ≡ v) × (d ≡ e) }
 {}
 
@@ -41,12 +43,15 @@ pub fn some_nearest()
 pub fn marks_of_decisions()
     ensures none { (rate : CodeRate) (decisions : List ℕ) → marks_of rate decisions 0 ≡ [] }
     ensures one_more { (rate : CodeRate) (decisions : List ℕ) (steps : ℕ)
-        → marks_of rate decisions (steps + 1) ≡ marks_of rate decisions steps ++ marks_at rate decisions steps ∷ [] }
+        → marks_of rate decisions (steps + 1)
+        ≡ marks_of rate decisions steps ++ marks_at rate decisions steps ∷ [] }
     ensures first_decisions { (rate : CodeRate) (decisions : List ℕ) (steps : ℕ)
-        → marks_of rate (take (kept_count rate steps) decisions) steps ≡ marks_of rate decisions steps }
+        → marks_of rate (take (kept_count rate steps) decisions) steps
+        ≡ marks_of rate decisions steps }
     ensures costs { (rate : CodeRate) (decisions : List ℕ) (steps : ℕ) → AreBits decisions
         → map costs_of (marks_of rate decisions steps) ≡ costs_of_steps rate 1 decisions steps }
-    ensures distance { (rate : CodeRate) (u decisions : List ℕ) (steps : ℕ) → AreBits decisions → length u ≡ steps
+    ensures distance { (rate : CodeRate) (u decisions : List ℕ) (steps : ℕ) → AreBits decisions
+        → length u ≡ steps
         → distance (marks_of rate decisions steps) u ≡ changes rate steps u decisions }
 {}
 

@@ -2,10 +2,6 @@
 //! marks, of which those of punctured places are absent.
 #![tactic(auto)]
 
-pub mod laws;
-#[cfg(test)]
-mod tests;
-
 ghost use Rattle.std.specs.Prelude.{◌≡◌, ℕ, ◌+◌, ◌<◌, ◌≤◌, List, [], ◌∷◌, ◌++◌, length, IfOk};
 ghost use Rattle.modem_ports.specs.Counts.{raised_by};
 ghost use Rattle.rate_table.specs.declared.CodeRate.{CodeRate};
@@ -18,6 +14,8 @@ use modem_ports::Steps;
 use std::alloc::{AllocError, Global};
 use std::marker::Model;
 use survivor_memory::{PairCosts, SurvivorMemory};
+
+pub mod laws;
 
 /// One decision, or none where the place of the code is punctured (own).
 #[derive(Clone, Copy, Debug, PartialEq, Eq)]
@@ -100,11 +98,13 @@ impl Trellis {
     pub fn finish(&mut self, out: &mut [u8]) -> u32
         requires enough { 6 ≤ length self.old.rows }
         requires places { length out.old ≡ length self.old.rows }
-        ensures nearest { (marks : List (Mark × Mark)) → StandsFor self.old marks → IsNearestTo marks out.new result }
+        ensures nearest { (marks : List (Mark × Mark)) → StandsFor self.old marks
+            → IsNearestTo marks out.new result }
 
         // a list that ends in six zeros, of whose kept code few bits were changed, is found again
         ensures found_again { (rate : CodeRate) (steps : ℕ) (u decisions : List ℕ)
-            → StandsFor self.old (marks_of rate decisions steps) → AreNearlyKeptCode rate steps u decisions
+            → StandsFor self.old (marks_of rate decisions steps)
+            → AreNearlyKeptCode rate steps u decisions
             → (out.new ≡ u) × (result ≡ changes rate steps u decisions) }
         ensures stands { StandsFor self.new [] }
         ensures entries { AreEntries self.new.entries }
@@ -141,3 +141,6 @@ fn pair_costs(a: Mark, b: Mark) -> PairCosts
         second_one,
     }
 }
+
+#[cfg(test)]
+mod tests;

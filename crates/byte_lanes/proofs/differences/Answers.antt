@@ -1,6 +1,7 @@
 use Rattle.std.proofs.Common.{◌≡◌, length, refl, arith}
 use Rattle.std.proofs.lemmas.Bool.Decides.{nat_tests}
-use Rattle.byte_lanes.proofs.ByteMasks.{differences-one, take-whole}
+use Rattle.std.proofs.lemmas.List.{take_all}
+use Rattle.byte_lanes.proofs.ByteMasks.{differences-one}
 use Rattle.byte_lanes.proofs.differences.Goals.{then-a-n, else-a-n}
 use Rattle.byte_lanes.proofs.differences.Goals as goal
 
@@ -19,4 +20,4 @@ loop-n-preserved c =
 pub returns-clause-count : goal.returns-clause-count
 returns-clause-count c =
     let whole : c.loop-n.n ≡ length c.args.a.now = omega arith in
-    rw (whole, take-whole c.args.a.now (length c.args.a.now) refl, take-whole c.args.b.now (length c.args.a.now) (omega arith)) at c.loop-n.invariant.so_far
+    rw (whole, take_all (length c.args.a.now) c.args.a.now (omega arith), take_all (length c.args.a.now) c.args.b.now (omega arith)) at c.loop-n.invariant.so_far
