@@ -1,5 +1,5 @@
 -- The places that differ, counted in parts.
-use Rattle.std.proofs.Common.{◌≡◌, ℕ, zero, suc, ◌+◌, ◌≤◌, List, [], ◌∷◌, length, take, drop, cond, nat_eq, Bool, true, false, refl, arith}
+use Rattle.std.proofs.Common.{◌≡◌, ℕ, zero, suc, ◌+◌, List, [], ◌∷◌, take, drop, refl, arith}
 use Rattle.byte_lanes.specs.Differences.{differences_of}
 
 -- with nothing to compare with, none differ

@@ -1,4 +1,4 @@
-//! Bits as lists: the bits of octets, and the text of bits.
+//! Bits as lists: the bits of octets (IEEE Std 802.11-2012, clause 18), and the text of bits.
 #![tactic(auto)]
 
 ghost use Rattle.std.specs.Prelude.{◌≡◌, ◌≢◌, ◌⊎◌, ℕ, List, [], ◌∷◌, ◌+◌, ◌*◌, ◌%◌, ◌^◌, ◌≤◌, ◌++◌, length, slice_index, vec_len, IfOk, OnOk, IsErrOf, IfSome, IfNone};
@@ -17,8 +17,7 @@ pub mod laws;
 // The most octets that the kernel counts at once.
 const KERNEL_LIMIT: usize = 1 << 24;
 
-/// The bits of octets: eight bits per octet, least significant first (IEEE Std 802.11-2012, clause 18).
-/// The only error is want of memory.
+/// The bits of octets: eight bits per octet, least significant first (clause 18). The only error is want of memory.
 pub fn bits_of(alloc: Global, bytes: &[u8]) -> Result<Vec<u8>, AllocError>
     ensures value { IfOk result (λ bits. bits.items ≡ bits_of_octets bytes.now) }
     ensures bits { IfOk result (λ bits. AreBits bits.items) }
@@ -83,7 +82,7 @@ impl Octets {
 }
 
 /// The octets of bits, each 0 or 1, whose number is divisible by 8: one for every eight, the least significant bit
-/// first (IEEE Std 802.11-2012, clause 18). The only error is want of memory.
+/// first (clause 18). The only error is want of memory.
 pub fn bytes_of(alloc: Global, bits: &[u8]) -> Result<Octets, AllocError>
     requires bits { AreBits bits.now }
     requires whole { length bits.now % 8 ≡ 0 }

@@ -1,5 +1,5 @@
 -- Counting the bytes that differ by a mask of lanes.
-use Rattle.std.proofs.Common.{◌≡◌, ℕ, ◌+◌, ◌%◌, ◌^◌, ◌<◌, ◌≤◌, List, [], ◌∷◌, map, ◌++◌, ◌-◌, length, take, drop, length-take, cond, Bool, true, false, not, eqb, get_or, w8, refl, ap, sym, ◌∙◌, arith}
+use Rattle.std.proofs.Common.{◌≡◌, ℕ, ◌+◌, ◌%◌, ◌^◌, ◌<◌, ◌≤◌, List, [], ◌∷◌, map, ◌++◌, ◌-◌, length, take, drop, length-take, cond, Bool, true, false, not, eqb, get_or, w8, refl, ap, ◌∙◌, arith}
 use Rattle.std.specs.Prelude.{count_ones, if◌then◌else◌, ◌==◌}
 use Rattle.std.specs.Simd.Lanes.{zip2, mask_l, top}
 use Rattle.std.proofs.lemmas.Simd.{ones-mask_l_cons, mask_l-mod, length-zip2}

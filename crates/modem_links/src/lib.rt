@@ -36,8 +36,8 @@ pub struct Field {
     pub distance: u32,
 }
 
-/// The kept code of the DATA field of a PSDU of 1 to 4095 octets (IEEE Std 802.11-2012, 18.3.5.1 to 18.3.5.6). The only
-/// error is want of memory.
+/// The kept code of the DATA field of a PSDU of 1 to 4095 octets (18.3.5.1 to 18.3.5.6). The only error is want of
+/// memory.
 pub fn coded(alloc: Global, rate: Rate, seed: Seed, psdu: &[u8]) -> Result<Vec<u8>, AllocError>
     requires octets { IsLength (length psdu.now) }
     ensures kept { IfOk result (λ kept. kept.items ≡ kept_at rate seed psdu.now) }

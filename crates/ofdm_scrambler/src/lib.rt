@@ -81,8 +81,7 @@ impl Register {
     }
 }
 
-/// Writes the seed's sequence, z(0), z(1) and so on, over all of `out`, one bit an entry (IEEE Std 802.11-2012,
-/// 18.3.5.5). Takes no memory.
+/// Writes the seed's sequence, z(0), z(1) and so on, over all of `out`, one bit an entry (18.3.5.5). Takes no memory.
 pub fn sequence(seed: Seed, out: &mut [u8])
     ensures values { out.new ≡ scrambler_sequence seed (length out.old) }
     ensures bits { AreBits out.new }
@@ -93,8 +92,8 @@ pub fn sequence(seed: Seed, out: &mut [u8])
     }
 }
 
-/// Changes bit n to its exclusive or with the seed's z(n), for each of the bits, which are 0 or 1 (IEEE Std
-/// 802.11-2012, 18.3.5.5). Takes no memory.
+/// Changes bit n to its exclusive or with the seed's z(n), for each of the bits, which are 0 or 1 (18.3.5.5). Takes no
+/// memory.
 pub fn scramble_in_place(seed: Seed, bits: &mut [u8])
     requires { AreBits bits.old }
     ensures values { bits.new ≡ scrambled seed bits.old }
@@ -106,9 +105,9 @@ pub fn scramble_in_place(seed: Seed, bits: &mut [u8])
     }
 }
 
-/// Changes bit n to its exclusive or with z(n) of a number from 0 to 127, for each of the bits, which are 0 or 1 (IEEE
-/// Std 802.11-2012, 18.3.5.5; the number is own). For a seed's number this undoes what the seed's scrambler did; for
-/// the number 0 nothing changes. Takes no memory.
+/// Changes bit n to its exclusive or with z(n) of a number from 0 to 127, for each of the bits, which are 0 or 1
+/// (18.3.5.5; the number is own). For a seed's number this undoes what the seed's scrambler did; for the number 0
+/// nothing changes. Takes no memory.
 pub fn descramble_in_place(number: u8, bits: &mut [u8])
     requires number { number ≤ 127 }
     requires bits { AreBits bits.old }
@@ -121,8 +120,8 @@ pub fn descramble_in_place(number: u8, bits: &mut [u8])
     }
 }
 
-/// The number, from 0 to 127, whose sequence begins with seven bits: that of a seed, or 0 where all seven are 0 (IEEE
-/// Std 802.11-2012, 18.3.5.5; the numbers are own). Takes no memory.
+/// The number, from 0 to 127, whose sequence begins with seven bits: that of a seed, or 0 where all seven are 0
+/// (18.3.5.5; the numbers are own). Takes no memory.
 pub fn seed_of_front(front: &[u8; 7]) -> u8
     requires { AreBits front.now }
     ensures begins { scrambler_sequence result 7 ≡ front.now }

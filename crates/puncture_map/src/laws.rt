@@ -7,7 +7,7 @@ ghost use Rattle.rate_table.specs.Table.{row_of};
 ghost use Rattle.puncture_map.specs.Kept.{is_kept, kept_count, rank};
 
 /// Kept places are counted place by place, and more steps have no fewer; of whole symbols, N_CBPS for each are kept
-/// (own, by IEEE Std 802.11-2012, 18.3.2.3 and 18.3.5.6).
+/// (own, by 18.3.2.3 and 18.3.5.6).
 pub fn kept_places_are_counted()
     ensures one_more { (rate : CodeRate) (place : ℕ)
         → rank rate (place + 1) ≡ rank rate place + (if is_kept rate place then 1 else 0) }

@@ -12,7 +12,7 @@ use std::alloc::{AllocError, Global};
 
 pub mod laws;
 
-/// Whether a place of the code is kept, that is sent (IEEE Std 802.11-2012, 18.3.5.6). Takes no memory.
+/// Whether a place of the code is kept, that is sent (18.3.5.6). Takes no memory.
 pub fn kept(rate: CodeRate, place: usize) -> bool
     ensures { result ≡ is_kept rate place }
 {
@@ -34,8 +34,7 @@ pub fn kept_before(rate: CodeRate, steps: usize) -> usize
     steps + steps.div_ceil(period(rate))
 }
 
-/// The kept bits of a code of at most 2^20 bits, each 0 or 1, in order (IEEE Std 802.11-2012, 18.3.5.6). The only
-/// error is want of memory.
+/// The kept bits of a code of at most 2^20 bits, each 0 or 1, in order (18.3.5.6). The only error is want of memory.
 pub fn puncture(alloc: Global, rate: CodeRate, code: &[u8]) -> Result<Vec<u8>, AllocError>
     requires short { length code.now ≤ 2 ^ 20 }
     requires bits { AreBits code.now }

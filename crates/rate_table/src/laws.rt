@@ -9,7 +9,7 @@ pub fn each_rate()
     ensures { (rate : Rate) → (index : ℕ) × ((index < 8) × (rate_at index ≡ rate)) }
 {}
 
-/// No two rates have one number of megabits a second (IEEE Std 802.11-2012, 18.3.2.3).
+/// No two rates have one number of megabits a second (18.3.2.3).
 pub fn one_rate_by_mbps()
     ensures { (rate other : Rate) → (row_of rate).mbps ≡ (row_of other).mbps → rate ≡ other }
 {}

@@ -8,10 +8,10 @@ ghost use Rattle.rate_table.specs.Symbols.{IsLength, bits_through_tail, symbol_c
 
 pub mod laws;
 
-/// The most octets that a PSDU has; the fewest is 1 (IEEE Std 802.11-2012, 18.3.4.3).
+/// The most octets that a PSDU has; the fewest is 1 (18.3.4.3).
 pub const MOST_OCTETS: u16 = 4095;
 
-/// The modulation of a data carrier (IEEE Std 802.11-2012, 18.3.5.8).
+/// The modulation of a data carrier (18.3.5.8).
 #[derive(Clone, Copy, Debug, PartialEq, Eq)]
 pub enum Modulation {
     Bpsk,
@@ -21,7 +21,7 @@ pub enum Modulation {
 }
 
 impl Modulation {
-    /// N_BPSC: the coded bits of a carrier, 1 to 6 (IEEE Std 802.11-2012, 18.3.2.3).
+    /// N_BPSC: the coded bits of a carrier, 1 to 6 (18.3.2.3).
     pub fn bits_per_carrier(self) -> usize
         ensures value { result ≡ bits_of_modulation self }
         ensures at_most { result ≤ 6 }
@@ -35,7 +35,7 @@ impl Modulation {
     }
 }
 
-/// The rate of the code once it is punctured (IEEE Std 802.11-2012, 18.3.5.6).
+/// The rate of the code once it is punctured (18.3.5.6).
 #[derive(Clone, Copy, Debug, PartialEq, Eq)]
 pub enum CodeRate {
     Half,
@@ -43,7 +43,7 @@ pub enum CodeRate {
     ThreeQuarters,
 }
 
-/// A data rate, named by its megabits a second (IEEE Std 802.11-2012, 18.3.2.3).
+/// A data rate, named by its megabits a second (18.3.2.3).
 #[derive(Clone, Copy, Debug, PartialEq, Eq)]
 pub enum Rate {
     R6,
@@ -57,8 +57,7 @@ pub enum Rate {
 }
 
 impl Rate {
-    /// The rate of so many megabits a second (IEEE Std 802.11-2012, 18.3.2.3); `None` exactly where no rate has
-    /// that number.
+    /// The rate of so many megabits a second (18.3.2.3); `None` exactly where no rate has that number.
     pub fn from_mbps(mbps: u32) -> Option<Rate>
         ensures named { IfSome result (λ rate. (row_of rate).mbps ≡ mbps) }
         ensures no_rate { IfNone result ((rate : Rate) → (row_of rate).mbps ≢ mbps) }
@@ -76,8 +75,8 @@ impl Rate {
         }
     }
 
-    /// The rate of a RATE pattern's number, R1 + 2 R2 + 4 R3 + 8 R4, from 0 to 15 (IEEE Std 802.11-2012, 18.3.4.2;
-    /// the number is own); `None` exactly where no rate has that pattern, which is where R4 is 0.
+    /// The rate of a RATE pattern's number, R1 + 2 R2 + 4 R3 + 8 R4, from 0 to 15 (18.3.4.2; the number is own); `None`
+    /// exactly where no rate has that pattern, which is where R4 is 0.
     pub fn from_pattern(pattern: u8) -> Option<Rate>
         requires { pattern < 16 }
         ensures named { IfSome result (λ rate. (row_of rate).pattern ≡ pattern) }
@@ -114,7 +113,7 @@ impl Rate {
         }
     }
 
-    /// Megabits a second, 6 to 54 (IEEE Std 802.11-2012, 18.3.2.3).
+    /// Megabits a second, 6 to 54 (18.3.2.3).
     pub fn mbps(self) -> u32
         ensures { result ≡ (row_of self).mbps }
     {
@@ -130,8 +129,7 @@ impl Rate {
         }
     }
 
-    /// The number of the RATE pattern, R1 + 2 R2 + 4 R3 + 8 R4, from 8 to 15 (IEEE Std 802.11-2012, 18.3.4.2; the
-    /// number is own).
+    /// The number of the RATE pattern, R1 + 2 R2 + 4 R3 + 8 R4, from 8 to 15 (18.3.4.2; the number is own).
     pub fn pattern(self) -> u8
         ensures { result ≡ (row_of self).pattern }
     {
@@ -147,7 +145,7 @@ impl Rate {
         }
     }
 
-    /// The modulation of the data carriers (IEEE Std 802.11-2012, 18.3.2.3).
+    /// The modulation of the data carriers (18.3.2.3).
     pub fn modulation(self) -> Modulation
         ensures { result ≡ (row_of self).modulation }
     {
@@ -159,7 +157,7 @@ impl Rate {
         }
     }
 
-    /// The code rate after puncturing (IEEE Std 802.11-2012, 18.3.2.3).
+    /// The code rate after puncturing (18.3.2.3).
     pub fn code_rate(self) -> CodeRate
         ensures { result ≡ (row_of self).code_rate }
     {
@@ -170,21 +168,21 @@ impl Rate {
         }
     }
 
-    /// N_BPSC: the coded bits of a carrier, 1 to 6 (IEEE Std 802.11-2012, 18.3.2.3).
+    /// N_BPSC: the coded bits of a carrier, 1 to 6 (18.3.2.3).
     pub fn bits_per_carrier(self) -> usize
         ensures { result ≡ (row_of self).bits_per_carrier }
     {
         self.modulation().bits_per_carrier()
     }
 
-    /// N_CBPS: the coded bits of a symbol, 48 to 288, which has 48 data carriers (IEEE Std 802.11-2012, 18.3.2.3).
+    /// N_CBPS: the coded bits of a symbol, 48 to 288, which has 48 data carriers (18.3.2.3).
     pub fn coded_bits(self) -> usize
         ensures { result ≡ (row_of self).coded_bits }
     {
         48 * self.bits_per_carrier()
     }
 
-    /// N_DBPS: the bits of the DATA field in a symbol, 24 to 216 (IEEE Std 802.11-2012, 18.3.2.3).
+    /// N_DBPS: the bits of the DATA field in a symbol, 24 to 216 (18.3.2.3).
     pub fn field_bits(self) -> usize
         ensures { result ≡ (row_of self).field_bits }
     {
@@ -218,8 +216,7 @@ impl Rate {
         }
     }
 
-    /// N_SYM: the number of symbols of the DATA field of so many octets, from 1 to 4095 (IEEE Std 802.11-2012,
-    /// 18.3.5.4).
+    /// N_SYM: the number of symbols of the DATA field of so many octets, from 1 to 4095 (18.3.5.4).
     pub fn symbols(self, length: u16) -> u32
         requires octets { IsLength length }
         ensures ceiling { result ≡ symbol_count (row_of self).field_bits length }

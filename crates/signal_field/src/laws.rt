@@ -4,13 +4,13 @@ ghost use Rattle.std.specs.Prelude.{◌≡◌, ◌%◌, ◌^◌, ◌<◌, ℕ, s
 ghost use Rattle.rate_table.specs.declared.Rate.{Rate};
 ghost use Rattle.signal_field.specs.Signal.{header_bits_of};
 
-/// The sum of bits 0 to 17 is even (IEEE Std 802.11-2012, 18.3.4.4).
+/// The sum of bits 0 to 17 is even (18.3.4.4).
 pub fn even_sum()
     ensures { (rate : Rate) (length reserved : ℕ)
         → sum (take 18 (header_bits_of rate length reserved)) % 2 ≡ 0 }
 {}
 
-/// The bits determine the rate, LENGTH and the reserved bit (IEEE Std 802.11-2012, 18.3.4).
+/// The bits determine the rate, LENGTH and the reserved bit (18.3.4).
 pub fn bits_determine_header()
     ensures { (rate rate' : Rate) (length length' reserved reserved' : ℕ) → length < 2 ^ 12
         → length' < 2 ^ 12

@@ -12,7 +12,7 @@ use rate_table::Rate;
 
 pub mod laws;
 
-/// What the SIGNAL field says of a frame (IEEE Std 802.11-2012, 18.3.4).
+/// What the SIGNAL field says of a frame (18.3.4).
 #[derive(Clone, Copy, Debug, PartialEq, Eq)]
 pub struct Header {
     /// The rate of the DATA field.
@@ -24,7 +24,7 @@ pub struct Header {
 }
 
 /// The 24 bits of a header: R1 to R4, the reserved bit, LENGTH with its least significant bit first, even parity, and
-/// six zeros (IEEE Std 802.11-2012, 18.3.4). LENGTH is 1 to 4095, the reserved bit 0 or 1. Takes no memory.
+/// six zeros (18.3.4). LENGTH is 1 to 4095, the reserved bit 0 or 1. Takes no memory.
 pub fn header_bits(header: &Header) -> [u8; 24]
     requires octets { IsLength header.now.length }
     requires reserved { IsBit header.now.reserved }
@@ -39,8 +39,8 @@ pub fn header_bits(header: &Header) -> [u8; 24]
     bits
 }
 
-/// The code of a header's 24 bits, before it is interleaved (IEEE Std 802.11-2012, 18.3.4 and 18.3.5.6). LENGTH is 1 to
-/// 4095, the reserved bit 0 or 1. Takes no memory.
+/// The code of a header's 24 bits, before it is interleaved (18.3.4 and 18.3.5.6). LENGTH is 1 to 4095, the reserved
+/// bit 0 or 1. Takes no memory.
 pub fn header_code(header: &Header) -> [u8; 48]
     requires octets { IsLength header.now.length }
     requires reserved { IsBit header.now.reserved }

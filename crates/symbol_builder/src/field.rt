@@ -19,7 +19,7 @@ const SERVICE_BITS: usize = 16;
 const TAIL_BITS: usize = 6;
 
 /// The bits of the DATA field of a PSDU of 1 to 4095 octets, N_SYM * N_DBPS of them: SERVICE, the PSDU and the pad
-/// scrambled, and the tail 0 (IEEE Std 802.11-2012, 18.3.5.1 to 18.3.5.5). The only error is want of memory.
+/// scrambled, and the tail 0 (18.3.5.1 to 18.3.5.5). The only error is want of memory.
 pub fn frame_field(
     alloc: Global,
     rate: Rate,
