@@ -1,5 +1,5 @@
 -- Decisions that are 0 or full cost so many times what the hard decisions 0 and 1 cost.
-use Rattle.std.proofs.Common.{◌≡◌, ℕ, zero, suc, ◌*◌, ◌<◌, ◌≤◌, List, length, map, slice_index, mul-le-mul_left, refl, ap, sym, ◌∙◌, arith}
+use Rattle.std.proofs.Common.{◌≡◌, ℕ, zero, suc, ◌*◌, ◌<◌, ◌≤◌, List, length, map, slice_index, mul-le-mul_left, ap, sym, ◌∙◌, arith}
 use Rattle.std.proofs.Math.Nat.{le_of_mul-le-mul_left}
 use Rattle.std.proofs.Math.ListN.{get_or-map}
 use Rattle.bit_lists.specs.Bits.{IsBit, AreBits}
