@@ -1,11 +1,9 @@
 -- What the bits of a DATA field up to the end of its tail say.
-use Rattle.std.proofs.Common.{◌≡◌, ℕ, ◌+◌, ◌-◌, ◌*◌, ◌<◌, ◌≤◌, List, [], ◌∷◌, ◌++◌, length, get_or, take, drop, replicate, ap, sym, ◌∙◌, refl, arith, lit<}
+use Rattle.std.proofs.Common.{◌≡◌, ℕ, ◌+◌, ◌-◌, ◌*◌, ◌<◌, ◌≤◌, List, ◌++◌, length, get_or, take, drop, replicate, ap, sym, ◌∙◌, refl, arith, lit<}
 use Rattle.std.proofs.lemmas.List.{ext_get_or, take_at, length-append, length-replicate, length-take, length-take-le, get_or-take, get_or-drop, get_or_append_left, get_or-append_right, get_or-append-add, get_or-replicate, length-drop}
-use Rattle.std.proofs.lemmas.List.Elements.{All-append, All-map, All-take, All-replicate}
+use Rattle.std.proofs.lemmas.List.Elements.{All-append, All-take, All-replicate}
 use Rattle.std.proofs.lemmas.List.FromFn.{length-map-range_with_len, get_or-map-range_with_len}
-use Rattle.bit_lists.specs.Bits.{AreBits, IsBit, bits_of_octet, bits_of_octets, exclusive_or}
-use Rattle.std.specs.Int.{bit_at}
-use Rattle.std.specs.List.{range_with_len}
+use Rattle.bit_lists.specs.Bits.{AreBits, IsBit, bits_of_octets, exclusive_or}
 use Rattle.bit_lists.proofs.EightBits.{length-bits_of_octets}
 use Rattle.bit_lists.proofs.BitFacts.{AreBits-bits_of_octets}
 use Rattle.data_field.specs.Stages.{field_at}
