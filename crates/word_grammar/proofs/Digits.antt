@@ -4,8 +4,10 @@ use Rattle.std.specs.Fmt.{decimal}
 use Rattle.std.proofs.lemmas.Fmt.{decimal_by_steps, decimal_digit, decimal_injective, decimal_nonempty, decimal_step}
 use Rattle.std.proofs.lemmas.List.{get_or_default, nil_from_length, same_from_push}
 use Rattle.std.proofs.lemmas.Bool.{cases_lt}
+use Rattle.word_grammar.specs.Marks.{HasNo}
 use Rattle.word_grammar.specs.Numbers.{Grows, IsNext, IsNumber, IsWide, SaysNumber, digits_read}
 use Rattle.word_grammar.specs.Places.{Begins, IsBadAt}
+use Rattle.word_grammar.proofs.Marks.{bare_append}
 use Rattle.word_grammar.proofs.Places.{bad_byte, bad_end}
 
 -- a list has no last byte, or a front and one
@@ -202,3 +204,17 @@ pub number_end : (least most : ℕ) (read : Option ℕ) (word : List ℕ) → mo
 number_end least most read word b l w e g low =
     let Kind : List ℕ → Type 0 = IsNumber least most in
     bad_end Kind word (subst (Begins Kind) (sym e) (read_begins least most read b l w g)) (subst (λ x. ¬ Kind x) (sym e) (read_none least most read b g low))
+
+-- a mark that is no digit stands in no number
+pub digits_bare : (mark n : ℕ) → (mark < 48) ⊎ (57 < mark) → n < 2 ^ 64 → HasNo mark (decimal n)
+digits_bare mark n other b =
+    let differ : (d : ℕ) → d < 10 → 48 + d ≢ mark = λ d l e. elim other [ inl low ↦ omega (arith, e) | inr high ↦ omega (arith, e) ] in
+    decimal_by_steps (λ m ds. HasNo mark ds) (λ d l. (differ d l, tt))
+    (λ m ds l h. bare_append mark ds ((48 + m % 10) ∷ []) h (differ (m % 10) (omega arith), tt)) n b
+
+pub number_bare : (mark least most n : ℕ) (word : List ℕ) → (mark < 48) ⊎ (57 < mark) → most < 2 ^ 64 → SaysNumber least most n word → HasNo mark word
+number_bare mark least most n word other b says = subst (HasNo mark) (sym says.is) (digits_bare mark n other (omega (arith, says.up_to)))
+
+-- a word is one number
+pub same_number : (least most m n : ℕ) (word : List ℕ) → most < 2 ^ 64 → SaysNumber least most m word → SaysNumber least most n word → m ≡ n
+same_number least most m n word b p q = decimal_injective m n (omega (arith, p.up_to)) (omega (arith, q.up_to)) (sym p.is ∙ q.is)

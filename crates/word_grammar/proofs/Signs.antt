@@ -1,11 +1,14 @@
 -- Signed numbers, and their places.
-use Rattle.std.proofs.Common.{ℕ, zero, suc, ◌+◌, ◌<◌, ◌^◌, ◌≡◌, ◌≢◌, ◌⊎◌, inl, inr, List, [], ◌∷◌, ◌++◌, length, drop, get_or, ℤ, pos, negsuc, neg_ℤ, sym, ap, ◌∙◌, subst, arith, append_assoc, length-append}
+use Rattle.std.proofs.Common.{ℕ, zero, suc, ◌+◌, ◌<◌, ◌^◌, ◌≡◌, ◌≢◌, ◌⊎◌, inl, inr, List, [], ◌∷◌, ◌++◌, length, drop, get_or, ℤ, pos, negsuc, neg_ℤ, ◌≤ℤ◌, sym, ap, ◌∙◌, subst, arith, append_assoc, length-append}
 use Rattle.std.proofs.lemmas.Int.{ints}
-use Rattle.std.specs.Fmt.{decimal}
-use Rattle.std.proofs.lemmas.Fmt.{first_decimal, decimal_digit}
+use Rattle.std.specs.Fmt.{decimal, signed_decimal}
+use Rattle.std.specs.Int.Signed.{mag}
+use Rattle.std.proofs.lemmas.Fmt.{first_decimal, decimal_digit, signed_decimal_injective}
+use Rattle.word_grammar.specs.Marks.{HasNo}
 use Rattle.word_grammar.specs.Numbers.{IsNumber, SaysNumber}
 use Rattle.word_grammar.specs.Places.{IsBadAt, Stops}
 use Rattle.word_grammar.specs.Signs.{IsSigned, SaysSigned}
+use Rattle.word_grammar.proofs.Digits.{digits_bare}
 use Rattle.word_grammar.proofs.Places.{bad_behind, bad_same}
 
 -- no number begins with a minus sign
@@ -71,3 +74,21 @@ bad_plain below above word at m h = record {
   begins = (h.begins.0, (pos h.begins.1.0, plain_says below above h.begins.1.0 _ h.begins.1.1));
   stops = plain_stops below above h.before h.behind (subst (HasNoMinus below) h.whole m) h.stops;
 }
+
+-- a mark that is no digit and no minus sign stands in no number
+signed_digits_bare : (mark below above : ℕ) (number : ℤ) → (mark < 48) ⊎ (57 < mark) → 45 ≢ mark → below < 2 ^ 64 → above < 2 ^ 64 → neg_ℤ (pos below) ≤ℤ number → number ≤ℤ pos above → HasNo mark (signed_decimal number)
+signed_digits_bare mark below above (pos n) other minus a b low high = digits_bare mark n other (omega (arith, ints))
+signed_digits_bare mark below above (negsuc n) other minus a b low high = (minus, digits_bare mark (suc n) other (omega (arith, ints)))
+
+pub signed_bare : (mark below above : ℕ) (number : ℤ) (word : List ℕ) → (mark < 48) ⊎ (57 < mark) → 45 ≢ mark → below < 2 ^ 64 → above < 2 ^ 64 → SaysSigned below above number word → HasNo mark word
+signed_bare mark below above number word other minus a b says =
+    subst (HasNo mark) (sym says.is) (signed_digits_bare mark below above number other minus a b says.from says.up_to)
+
+mag_within : (below above : ℕ) (number : ℤ) → below < 2 ^ 63 → above < 2 ^ 63 → neg_ℤ (pos below) ≤ℤ number → number ≤ℤ pos above → mag number < 2 ^ 63
+mag_within below above (pos n) a b low high = omega (arith, ints)
+mag_within below above (negsuc n) a b low high = omega (arith, ints)
+
+-- a word is one number
+pub same_signed : (below above : ℕ) (y z : ℤ) (word : List ℕ) → below < 2 ^ 63 → above < 2 ^ 63 → SaysSigned below above y word → SaysSigned below above z word → y ≡ z
+same_signed below above y z word a b p q =
+    signed_decimal_injective y z (mag_within below above y a b p.from p.up_to) (mag_within below above z a b q.from q.up_to) (sym p.is ∙ q.is)

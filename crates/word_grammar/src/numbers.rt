@@ -5,7 +5,8 @@ ghost use Rattle.word_grammar.specs.Numbers.{Grows, IsNext, IsNumber, IsWide, Sa
 ghost use Rattle.word_grammar.specs.Places.{IsBadAt};
 ghost use Rattle.word_grammar.specs.Signs.{IsSigned, SaysSigned};
 
-/// The number that a word is, from `least` to `most`, with no leading zero (own).
+/// The number that a word is, from `least` to `most`, with no leading zero (own). The range is wide:
+/// `most` is at least ten times `least`, or below 10.
 ///
 /// Where the word is no such number, the answer is its bad place: the bytes before the place begin
 /// such a number, and with the byte there they begin none. A number that is only too small so far is
