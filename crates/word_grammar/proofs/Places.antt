@@ -96,3 +96,7 @@ bad_end Kind text begins stops = record {
   begins = begins;
   stops = stops;
 }
+
+-- a bad place is no further on than the text's length
+pub bad_within : (Kind : List ℕ → Type 0) (text : List ℕ) (at : ℕ) → IsBadAt Kind text at → at ≤ length text
+bad_within Kind text at h = omega (arith, h.place, ap length h.whole, length-append h.before h.behind)

@@ -1,5 +1,5 @@
 //! Decimal numbers in a range, read byte by byte.
-ghost use Rattle.std.specs.Prelude.{◌≡◌, ◌≢◌, ◌≤◌, ◌⊎◌, ◌∷◌, ℕ, drop, slice_index, IfSome, IfNone, IfOk, IfErr};
+ghost use Rattle.std.specs.Prelude.{◌≡◌, ◌≢◌, ◌≤◌, ◌⊎◌, ◌∷◌, ℕ, length, drop, slice_index, IfSome, IfNone, IfOk, IfErr};
 ghost use Rattle.std.specs.Bool.{OnFalse, OnTrue};
 ghost use Rattle.word_grammar.specs.Numbers.{Grows, IsNext, IsNumber, IsWide, SaysNumber};
 ghost use Rattle.word_grammar.specs.Places.{IsBadAt};
@@ -16,6 +16,7 @@ pub fn number(word: &[u8], least: u64, most: u64) -> Result<u64, usize>
     requires wide { IsWide least most }
     ensures number { IfOk result (λ number. SaysNumber least most number word.now) }
     ensures bad { IfErr result (IsBadAt (IsNumber least most) word.now) }
+    ensures within { IfErr result (λ at. at ≤ length word.now) }
 {
     let mut read = None;
     for at in 0..word.len() {
@@ -55,6 +56,7 @@ fn next_number(read: Option<u64>, byte: u8, least: u64, most: u64) -> Option<u64
 pub fn signed(word: &[u8], below: u32, above: u32) -> Result<i64, usize>
     ensures number { IfOk result (λ number. SaysSigned below above number word.now) }
     ensures bad { IfErr result (IsBadAt (IsSigned below above) word.now) }
+    ensures within { IfErr result (λ at. at ≤ length word.now) }
 {
     if has_minus(word, below) {
         match number(&word[1..], 1, below as u64) {
