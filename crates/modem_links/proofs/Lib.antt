@@ -2,3 +2,4 @@ mod Fields
 pub mod Begun
 pub mod FramePlaces
 mod NearFrames
+pub mod FieldLaws

@@ -15,20 +15,13 @@ ghost use Rattle.modem_links.specs.Laws.{FewFlips, OneField, SomeField};
 pub fn one_field()
     ensures some { SomeField }
     ensures no_other { OneField }
-{
-    viterbi_lanes::laws::some_nearest();
-    viterbi_lanes::laws::one_nearest();
-    ofdm_scrambler::laws::fronts_name_numbers();
-}
+{}
 
 /// Where at most `flip_bound` decisions differ from the kept code of a field, up to its tail, the field of the decisions
 /// is that one, and its distance is the number of those flips (own).
 pub fn few_flips()
     ensures { FewFlips }
-{
-    viterbi_lanes::laws::few_changes_are_repaired();
-    bit_lists::laws::octets_and_bits();
-}
+{}
 
 /// How long a frame is, and where its parts stand: the preamble from 0 on, and symbol n from 320 + 80 n on, so SIGNAL at
 /// 320 and DATA symbol m at 400 + 80 m (IEEE Std 802.11-2012, 18.3.2.1).

@@ -34,9 +34,7 @@ pub fn one_nearest()
 pub fn some_nearest()
     ensures { (marks : List (Mark × Mark)) → 6 ≤ length marks
         → (u : List ℕ) × ((least : ℕ) × IsNearestTo marks u least) }
-{
-    survivor_memory::laws::some_nearest();
-}
+{}
 
 /// The pairs of marks of decisions are made step by step, decisions behind the kept places play no part, and a list's
 /// distance to the marks is the number of decisions that differ from its kept code (own).
@@ -61,6 +59,4 @@ pub fn few_changes_are_repaired()
     ensures { (rate : CodeRate) (steps : ℕ) (u decisions : List ℕ) → 6 ≤ steps
         → AreNearlyKeptCode rate steps u decisions
         → IsNearestTo (marks_of rate decisions steps) u (changes rate steps u decisions) }
-{
-    survivor_memory::laws::some_nearest();
-}
+{}
