@@ -1,5 +1,5 @@
 -- A frame that was begun, and one symbol more.
-use Rattle.std.proofs.Common.{◌≡◌, ℕ, suc, ◌+◌, ◌-◌, ◌++◌, ◌∷◌, [], List, length, take, drop, ap, sym, ◌∙◌, arith}
+use Rattle.std.proofs.Common.{◌≡◌, ℕ, suc, ◌+◌, ◌++◌, ◌∷◌, [], List, length, ap, sym, ◌∙◌, arith}
 use Rattle.std.proofs.lemmas.List.{append-nil, flat_map_more, map-id}
 use Rattle.std.proofs.lemmas.List.FromFn.{map-range_with_len_more}
 use Rattle.std.specs.List.{flat_map, range_with_len}
@@ -21,12 +21,6 @@ pub one_more : (n : ℕ) → range_with_len 0 (n + 1) ≡ range_with_len 0 n ++ 
 one_more n =
     sym (map-id (range_with_len 0 (n + 1))) ∙ map-range_with_len_more (λ k. k) 0 n n (omega arith)
     ∙ ap (λ places. places ++ n ∷ []) (map-id (range_with_len 0 n))
-
--- the part of a list from a place on, so many long
-pub part_is : (bits items : List ℕ) (at count n : ℕ) → items ≡ bits → count ≡ n → take ((at + count) - at) (drop at items) ≡ take n (drop at bits)
-part_is bits items at count n same long =
-    let size : (at + count) - at ≡ n = omega arith in
-    ap (λ k. take k (drop at items)) size ∙ ap (λ list. take n (drop at list)) same
 
 -- the preamble, and the symbols below n behind it
 unfoldable pub begun_frame : {A : Type 0} → ((ℕ → Cx) → ℕ → A) → Rate → ℕ → List ℕ → ℕ → List A

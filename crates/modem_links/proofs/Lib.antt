@@ -3,3 +3,4 @@ pub mod Begun
 pub mod FramePlaces
 mod NearFrames
 pub mod FieldLaws
+pub mod Symbols

@@ -102,13 +102,11 @@ pub fn frame_samples(
 {
     sent_frames();
     let kept = coded(alloc, rate, seed, psdu)?;
-    let symbols = rate.symbols(psdu.len() as u16) as usize;
-    let coded_bits = rate.coded_bits();
     let mut samples = frame_head(alloc, rate, psdu.len() as u16)?;
-    for m in 0..symbols {
-        let at = m * coded_bits;
-        let points = points_of_code(rate, &kept[at..at + coded_bits]);
-        push_symbol(&mut samples, &points, m as u32 + 1)?;
+    let mut n = 0;
+    for symbol in kept.chunks(rate.coded_bits()) {
+        n += 1;
+        push_symbol(&mut samples, &points_of_code(rate, symbol), n)?;
     }
     Ok(samples)
 }

@@ -1,45 +1,82 @@
-use Rattle.std.proofs.Common.{◌≡◌, ◌+◌, ◌*◌, ◌∙◌, ap, take, drop, length, arith}
+use Rattle.std.proofs.Common.{rules, ◌≡◌, ◌+◌, ◌∙◌, ap, min, length, arith}
+use Rattle.std.specs.Slice.Iter.{chunks_rest}
 use Rattle.std.proofs.lemmas.List.Elements.{All-drop, All-take}
 use Rattle.bit_lists.specs.Bits.{AreBits, IsBit}
+use Rattle.interleave_two.specs.Place.{symbol_bits}
 use Rattle.rate_table.specs.Symbols.{symbol_count}
 use Rattle.rate_table.specs.Table.{row_of}
 use Rattle.plain_waves.specs.Bodies.{sent_body}
-use Rattle.modem_links.proofs.Begun.{all_symbols, head_is, part_is, points_are, samples_are}
+use Rattle.modem_links.proofs.Begun.{all_symbols, head_is, points_are, samples_are}
+use Rattle.modem_links.proofs.Symbols.{NextSymbol, count_within, next_symbol, no_symbol, some_coded}
+use Rattle.modem_links.proofs.frames.frame_samples.Goals.{In-None, In-Some}
 use Rattle.modem_links.proofs.frames.frame_samples.Goals as goal
 
-pub loop-m-init : goal.loop-m-init
-loop-m-init c = record {
+pub chunks-symbol-items-requires : goal.chunks-symbol-items-requires
+chunks-symbol-items-requires c = omega (arith, some_coded c.args.rate, c.coded_bits.ensures)
+
+pub loop-symbol-init : goal.loop-symbol-init
+loop-symbol-init c = record {
+  size = search rules;
+  rest = search rules;
+  within = omega arith;
   samples = c.in_ok-samples.ensures.samples ∙ head_is sent_body c.args.rate c.args.seed c.args.psdu.now;
   len = c.in_ok-samples.ensures.len;
 }
 
-pub points_of_code-points-requires-clause-bits : goal.points_of_code-points-requires-clause-bits
-points_of_code-points-requires-clause-bits c =
-    let bits : AreBits c.deref.result.now = rw c.deref.ensures.value c.in_ok-kept.ensures.bits in
-    All-take IsBit _ _ (All-drop IsBit _ _ bits)
+-- the symbol that comes off the kept code
+next : (c : In-Some) → NextSymbol (row_of c.args.rate).coded_bits (chunks_rest c.into_iter-symbol-iterator.result) c.loop-symbol.n c.in-Some.symbol.now (chunks_rest c.next.new.self)
+next c =
+    let kept : chunks_rest c.into_iter-symbol-iterator.result ≡ c.in_ok-kept.kept.items = search rules in
+    next_symbol (row_of c.args.rate).coded_bits (symbol_count (row_of c.args.rate).field_bits (length c.args.psdu.now)) c.loop-symbol.n
+    (chunks_rest c.into_iter-symbol-iterator.result) (chunks_rest c.loop-symbol.symbol-iterator) c.in-Some.symbol.now (chunks_rest c.next.new.self)
+    (ap length kept ∙ c.in_ok-kept.ensures.len) c.loop-symbol.invariant.rest c.in-Some.ensures.steps.1.0
+    (c.in-Some.ensures.steps.1.1 ∙ ap (λ n. min n (length (chunks_rest c.loop-symbol.symbol-iterator))) c.loop-symbol.invariant.size) c.in-Some.ensures.steps.1.2
 
-pub loop-m-preserved : goal.loop-m-preserved
-loop-m-preserved c =
-    let m = c.loop-m.m in
-    let coded = c.coded_bits-coded_bits.result in
-    let kept = c.in_ok-kept.kept.items in
-    let part =
-    part_is kept c.deref.result.now (m * coded) coded (row_of c.args.rate).coded_bits c.deref.ensures.value c.coded_bits-coded_bits.ensures
-    ∙ ap (λ n. take (row_of c.args.rate).coded_bits (drop (m * n) kept)) c.coded_bits-coded_bits.ensures in
-    let points = points_are c.args.rate c.args.seed c.args.psdu.now kept _ c.points_of_code-points.result m c.in_ok-kept.ensures.kept part c.points_of_code-points.ensures.points in
+pub overflow_add-n : goal.overflow_add-n
+overflow_add-n c =
+    let kept : chunks_rest c.into_iter-symbol-iterator.result ≡ c.in_ok-kept.kept.items = search rules in
+    omega (arith, count_within c.args.rate (length c.args.psdu.now) c.loop-symbol.n (chunks_rest c.into_iter-symbol-iterator.result) (omega arith) (ap length kept ∙ c.in_ok-kept.ensures.len) (next c).within)
+
+pub points_of_code-requires-clause-whole : goal.points_of_code-requires-clause-whole
+points_of_code-requires-clause-whole c = (next (goal.at.points_of_code-requires-clause-whole c).In-Some).long
+
+pub points_of_code-requires-clause-bits : goal.points_of_code-requires-clause-bits
+points_of_code-requires-clause-bits c =
+    let symbol = next (goal.at.points_of_code-requires-clause-bits c).In-Some in
+    let kept : chunks_rest c.into_iter-symbol-iterator.result ≡ c.in_ok-kept.kept.items = search rules in
+    let bits : AreBits (chunks_rest c.into_iter-symbol-iterator.result) = rw kept c.in_ok-kept.ensures.bits in
+    rw symbol.is (All-take IsBit _ _ (All-drop IsBit _ _ bits))
+
+pub loop-symbol-preserved : goal.loop-symbol-preserved
+loop-symbol-preserved c =
+    let symbol = next (goal.at.loop-symbol-preserved c).In-Some in
+    let kept : chunks_rest c.into_iter-symbol-iterator.result ≡ c.in_ok-kept.kept.items = search rules in
+    let points = points_are c.args.rate c.args.seed c.args.psdu.now c.in_ok-kept.kept.items c.in-Some.symbol.now c.points_of_code.result c.loop-symbol.n c.in_ok-kept.ensures.kept (symbol.is ∙ ap (λ bits. symbol_bits c.args.rate bits c.loop-symbol.n) kept) c.points_of_code.ensures.points in
     record {
-      samples = samples_are c.args.rate c.args.seed c.args.psdu.now c.loop-m.samples.items _ c.points_of_code-points.result (m + 1) c.loop-m.invariant.samples points c.in_ok-push_symbol.ensures.appended;
-      len = omega (arith, c.in_ok-push_symbol.ensures.len, c.loop-m.invariant.len);
+      size = c.in-Some.ensures.steps.0 ∙ c.loop-symbol.invariant.size;
+      rest = symbol.rest_is;
+      within = symbol.within;
+      samples = samples_are c.args.rate c.args.seed c.args.psdu.now c.loop-symbol.samples.items _ c.points_of_code.result (c.loop-symbol.n + 1) c.loop-symbol.invariant.samples points c.in_ok-push_symbol.ensures.appended;
+      len = omega (arith, c.in_ok-push_symbol.ensures.len, c.loop-symbol.invariant.len);
     }
+
+-- all symbols were sent
+all_sent : (c : In-None) → c.loop-symbol.n ≡ symbol_count (row_of c.args.rate).field_bits (length c.args.psdu.now)
+all_sent c =
+    let kept : chunks_rest c.into_iter-symbol-iterator.result ≡ c.in_ok-kept.kept.items = search rules in
+    no_symbol (row_of c.args.rate).coded_bits (symbol_count (row_of c.args.rate).field_bits (length c.args.psdu.now)) c.loop-symbol.n
+    (chunks_rest c.into_iter-symbol-iterator.result) (chunks_rest c.loop-symbol.symbol-iterator) (some_coded c.args.rate)
+    (ap length kept ∙ c.in_ok-kept.ensures.len) c.loop-symbol.invariant.rest c.loop-symbol.invariant.within c.in-None.ensures.steps.1.0
 
 pub returns-clause-samples : goal.returns-clause-samples
 returns-clause-samples c =
-    let whole : c.loop-m.m ≡ symbol_count (row_of c.args.rate).field_bits (length c.args.psdu.now) =
-    omega (arith, c.loop-m-test.false, c.loop-m.auto.m-end, c.symbols-symbols.ensures.ceiling) in
-    c.loop-m.invariant.samples ∙ all_symbols sent_body c.args.rate c.args.seed c.args.psdu.now c.loop-m.m whole
+    c.loop-symbol.invariant.samples ∙ all_symbols sent_body c.args.rate c.args.seed c.args.psdu.now c.loop-symbol.n (all_sent (goal.at.returns-clause-samples c).In-None)
 
 pub returns-clause-near : goal.returns-clause-near
 returns-clause-near c = rw (returns-clause-samples c) (c.sent_frames.ensures.near c.args.rate c.args.seed c.args.psdu.now)
 
 pub returns-clause-within : goal.returns-clause-within
 returns-clause-within c = rw (returns-clause-samples c) (c.sent_frames.ensures.within c.args.rate c.args.seed c.args.psdu.now)
+
+pub returns-clause-len : goal.returns-clause-len
+returns-clause-len c = omega (arith, all_sent (goal.at.returns-clause-len c).In-None, c.loop-symbol.invariant.len)
