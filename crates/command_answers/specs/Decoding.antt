@@ -23,12 +23,13 @@ OfBits text Rest = UnlessSome (IsBadPlace text) (λ at. BadBit at) (With (HasBit
 
 -- the PSDU of the field of the bits
 abbrev pub HasField : Rate → ℕ → List ℕ → List ℕ → Type 0
-HasField rate octets bits psdu = (number : ℕ) × ((least : ℕ) × IsFieldOf rate octets bits number psdu least)
+HasField rate octets bits psdu =
+    (number : ℕ) × ((least : ℕ) × IsFieldOf rate octets bits number psdu least)
 
--- the outcome of `decode`, in the order of its refusals: a place of the text holds no bit; it has another number of bits
--- than is needed; else the PSDU of the field of the bits is written
+-- the outcome of `decode`, in the order of its refusals: a place of the text holds no bit; it has
+-- another number of bits than is needed; else the PSDU of the field of the bits is written
 abbrev pub DecodeOutcome : Rate → ℕ → List ℕ → Outcome → Type 0
 DecodeOutcome rate octets text =
     OfBits text (λ bits.
-    Unless (length bits ≢ bits_needed rate octets) (BitCount (length bits) (bits_needed rate octets))
-    (Answers (HasField rate octets bits)))
+    let need = bits_needed rate octets in
+    Unless (length bits ≢ need) (BitCount (length bits) need) (Answers (HasField rate octets bits)))

@@ -10,8 +10,9 @@ use Rattle.command_words.specs.declared.Command.TheVariants.{Decode}
 use Rattle.command_words.specs.Grammar.{Say}
 use Rattle.command_answers.specs.Decoding.{bits_needed}
 
--- the words ask to decode as many octets as a PSDU has, at a rate; the bytes are the text of as many bits as that needs; and
--- of these, up to the tail, at most the rate's flip bound differ from the kept code of the PSDU's field with some seed
+-- the words ask to decode as many octets as a PSDU has, at a rate; the bytes are the text of as many
+-- bits as that needs; and of these, up to the tail, at most the rate's flip bound differ from the kept
+-- code of the PSDU's field with some seed
 pub record IsFlippedText (words : List (List ℕ)) (bytes psdu : List ℕ) : Type 0 where
   pub rate : Rate
   pub seed : ℕ

@@ -55,7 +55,8 @@ IsAccepted Bytes read = length read ≤ most_input
 -- the outcome of an input, in the order of its refusals; Rest is that of what is read
 abbrev pub OfInput : Reading → (List ℕ → Outcome → Type 0) → List ℕ → Outcome → Type 0
 OfInput Nothing Rest bytes = Rest []
-OfInput Psdu Rest bytes = Unless (length bytes ≡ 0) EmptyPsdu (Unless (most_octets < length bytes) LongPsdu (Rest bytes))
+OfInput Psdu Rest bytes =
+    Unless (length bytes ≡ 0) EmptyPsdu (Unless (most_octets < length bytes) LongPsdu (Rest bytes))
 OfInput Bytes Rest bytes = Unless (most_input < length bytes) LongCapture (Rest bytes)
 
 -- an input is refused, whatever is made of what is read
@@ -74,7 +75,8 @@ IsPast None = Unit {0}
 IsPast (Some refusal) = (step_of refusal ≡ answering) ⊎ (step_of refusal ≡ writing)
 
 -- what a call that reads leaves of the source, where it is refused for this cause or for none
-pub record Reads (kind : Reading) (before after : Option (List ℕ)) (faults faults' : ℕ) (refused : Option Refusal) : Type 0 where
+pub record Reads (kind : Reading) (before after : Option (List ℕ)) (faults faults' : ℕ)
+    (refused : Option Refusal) : Type 0 where
   pub end : IsPast refused → ReadsToEnd kind → IsAtEnd after
   pub at_most : GivesAtMost (taken kind) before after
   pub to_limit : refused ≡ Some LongPsdu → GivesExactly (most_octets + 1) before after

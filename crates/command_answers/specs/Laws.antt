@@ -6,14 +6,18 @@ use Rattle.command_answers.specs.Outcome.{HasOutcome}
 
 -- all words and all bytes have an outcome
 abbrev pub SomeOutcome : Type 0
-SomeOutcome = (words : List (List ℕ)) (bytes : List ℕ) → (outcome : Outcome) × HasOutcome words bytes outcome
+SomeOutcome =
+    (words : List (List ℕ)) (bytes : List ℕ) → (outcome : Outcome) × HasOutcome words bytes outcome
 
 -- .. and no other
 abbrev pub OneOutcome : Type 0
 OneOutcome =
-    (words : List (List ℕ)) (bytes : List ℕ) (a b : Outcome) → HasOutcome words bytes a → HasOutcome words bytes b → a ≡ b
+    (words : List (List ℕ)) (bytes : List ℕ) (a b : Outcome)
+    → HasOutcome words bytes a → HasOutcome words bytes b → a ≡ b
 
--- the outcome of a text that is the kept code of a field with few flips: that field's PSDU is written
+-- the outcome of a text that is the kept code of a field with few flips: that field's PSDU is
+-- written
 abbrev pub FlippedTextGivesItsPsdu : Type 0
 FlippedTextGivesItsPsdu =
-    (words : List (List ℕ)) (bytes psdu : List ℕ) → IsFlippedText words bytes psdu → HasOutcome words bytes (Writes psdu)
+    (words : List (List ℕ)) (bytes psdu : List ℕ)
+    → IsFlippedText words bytes psdu → HasOutcome words bytes (Writes psdu)

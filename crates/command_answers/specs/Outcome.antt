@@ -26,9 +26,11 @@ AnswerOf (Show stage rate seed) read outcome = outcome ≡ Writes (stage_text_of
 abbrev pub CommandOutcome : Command → List ℕ → Outcome → Type 0
 CommandOutcome command bytes outcome = OfInput (reads command) (AnswerOf command) bytes outcome
 
--- words and the bytes of the input have an outcome: that of the command which the words say, or `Words`
+-- words and the bytes of the input have an outcome: that of the command which the words say, or
+-- `Words`
 pub data HasOutcome (words : List (List ℕ)) (bytes : List ℕ) (outcome : Outcome) : Type 0 where
-  of_command : (command : Command) → Say words command → CommandOutcome command bytes outcome → HasOutcome words bytes outcome
+  of_command : (command : Command) → Say words command → CommandOutcome command bytes outcome
+      → HasOutcome words bytes outcome
   of_no_command : SayNothing words → outcome ≡ Refuses Words → HasOutcome words bytes outcome
 
 -- the same of the bytes that a source tells
@@ -38,7 +40,8 @@ IsOutcome words left outcome = IfSome left (λ bytes. HasOutcome words bytes out
 -- the words are refused for this cause, whatever the input holds
 abbrev pub RefusesWords : List (List ℕ) → Refusal → Type 0
 RefusesWords words refusal =
-    (status_of refusal ≡ status.BadWords) × ((bytes : List ℕ) → HasOutcome words bytes (Refuses refusal))
+    (status_of refusal ≡ status.BadWords)
+    × ((bytes : List ℕ) → HasOutcome words bytes (Refuses refusal))
 
 -- the words are refused
 abbrev pub AreRefused : List (List ℕ) → Type 0
@@ -58,6 +61,7 @@ ReadsInput command = ReadsToEnd (reads command)
 -- the statuses that may follow an outcome: its own, a fault of a port, or want of memory
 abbrev pub MayFollow : Outcome → Status → Type 0
 MayFollow (Writes bytes) ended =
-    (ended ≡ status.Ok) ⊎ (ended ≡ status.ReadFault) ⊎ (ended ≡ status.WriteFault) ⊎ (ended ≡ status.NoMemory)
+    (ended ≡ status.Ok) ⊎ (ended ≡ status.ReadFault) ⊎ (ended ≡ status.WriteFault)
+    ⊎ (ended ≡ status.NoMemory)
 MayFollow (Refuses refusal) ended =
     (ended ≡ status_of refusal) ⊎ (ended ≡ status.ReadFault) ⊎ (ended ≡ status.NoMemory)

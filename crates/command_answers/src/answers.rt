@@ -28,8 +28,8 @@ pub enum Answer {
     Samples(Vec<Sample>),
 }
 
-/// What a command writes, of the input that it read (own): the bytes of its outcome, or the refusal that is its outcome,
-/// or `NoMemory`, which is free. `steps` counts the steps of the trellis.
+/// What a command writes, of the input that it read (own): the bytes of its outcome, or the refusal
+/// that is its outcome, or `NoMemory`, which is free. `steps` counts the steps of the trellis.
 pub fn answer_of(
     alloc: Global,
     command: Command,
@@ -38,7 +38,8 @@ pub fn answer_of(
 ) -> Result<Answer, Refusal>
     requires range { IsInRange command }
     requires accepted { IsAccepted (reads command) input.now }
-    ensures ok { IfOk result (λ answer. AnswerOf command input.now (Writes (bytes_of_answer answer))) }
+    ensures ok { IfOk result (λ answer.
+        AnswerOf command input.now (Writes (bytes_of_answer answer))) }
     ensures refused { IfErr result (λ refusal. (refusal ≡ Refusal.NoMemory)
         ⊎ ((step_of refusal ≡ answering) × AnswerOf command input.now (Refuses refusal))) }
 {
@@ -58,10 +59,12 @@ pub fn answer_of(
 
 /// Writes the bytes of an answer to a sink (own). Takes no memory.
 ///
-/// After `Ok` the told bytes are those before followed by all of them. `Failed` comes only where the sink's count of
-/// faults rose in this call, and then the told bytes are those before followed by a prefix.
+/// After `Ok` the told bytes are those before followed by all of them. `Failed` comes only where the
+/// sink's count of faults rose in this call, and then the told bytes are those before followed by a
+/// prefix.
 pub fn write_answer<K: Sink>(answer: &Answer, out: &mut K) -> Result<(), Failed>
-    ensures ok { OnOk result (Takes (K.taken out.old) (bytes_of_answer answer.now) (K.taken out.new)) }
+    ensures ok { OnOk result
+        (Takes (K.taken out.old) (bytes_of_answer answer.now) (K.taken out.new)) }
     ensures failed { OnErr result (Rose (K.faults out.old) (K.faults out.new)) }
     ensures prefix { OnErr result
         (TakesPrefix (K.taken out.old) (bytes_of_answer answer.now) (K.taken out.new)) }

@@ -27,7 +27,8 @@ pub fn decoded(
 ) -> Result<Answer, Refusal>
     requires octets { IsLength octets }
     requires most { length text.now ≤ most_input }
-    ensures ok { IfOk result (λ answer. DecodeOutcome rate octets text.now (Writes (bytes_of_answer answer))) }
+    ensures ok { IfOk result (λ answer.
+        DecodeOutcome rate octets text.now (Writes (bytes_of_answer answer))) }
     ensures refused { IfErr result (λ refusal. (refusal ≡ Refusal.NoMemory)
         ⊎ ((step_of refusal ≡ answering) × DecodeOutcome rate octets text.now (Refuses refusal))) }
 {

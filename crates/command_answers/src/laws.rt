@@ -11,7 +11,8 @@ pub fn outcome_is_one()
     one_field();
 }
 
-/// What `decode` is asked to write of a text that is the kept code of a field with few flips: that field's PSDU (own).
+/// What `decode` is asked to write of a text that is the kept code of a field with few flips: that
+/// field's PSDU (own).
 pub fn flipped_text_gives_its_psdu()
     ensures { FlippedTextGivesItsPsdu }
 {

@@ -35,9 +35,9 @@ impl Reading {
 
 /// The input of a command, read to its end (own): `Ok` has the bytes that are left of the source.
 ///
-/// `EmptyPsdu`, `LongPsdu` and `LongCapture` come as the input alone decides, the two long ones as soon as the byte that
-/// passes the limit was taken. `ReadFault` comes only where the source's count of faults rose in this call. `NoMemory` is
-/// free.
+/// `EmptyPsdu`, `LongPsdu` and `LongCapture` come as the input alone decides, the two long ones as soon
+/// as the byte that passes the limit was taken. `ReadFault` comes only where the source's count of
+/// faults rose in this call. `NoMemory` is free.
 pub fn read_input<S: Source>(
     alloc: Global,
     kind: Reading,
@@ -45,7 +45,8 @@ pub fn read_input<S: Source>(
 ) -> Result<Vec<u8>, Refusal>
     ensures input { IfOk result (λ input. IfSome (S.left source.old) (IsInput kind input.items)) }
     ensures accepted { IfOk result (λ input. IsAccepted kind input.items) }
-    ensures refused { IfErr result (λ refusal. (refusal ≡ Refusal.NoMemory) ⊎ (step_of refusal ≡ reading)) }
+    ensures refused { IfErr result (λ refusal.
+        (refusal ≡ Refusal.NoMemory) ⊎ (step_of refusal ≡ reading)) }
     ensures outcome { IfErr result (λ refusal. IsDecided (status_of refusal)
         → IfSome (S.left source.old) (RefusesInput kind refusal)) }
     ensures reads { Reads kind (S.left source.old) (S.left source.new)
@@ -69,7 +70,8 @@ pub fn read_input<S: Source>(
 fn whole_psdu(psdu: Vec<u8>) -> Result<Vec<u8>, Refusal>
     ensures psdu { IfOk result (λ whole. whole.items ≡ psdu.items) }
     ensures some { IfOk result (λ whole. 1 ≤ length whole.items) }
-    ensures empty { IfErr result (λ refusal. (refusal ≡ Refusal.EmptyPsdu) × (length psdu.items ≡ 0)) }
+    ensures empty { IfErr result (λ refusal.
+        (refusal ≡ Refusal.EmptyPsdu) × (length psdu.items ≡ 0)) }
 {
     if psdu.is_empty() {
         return Err(Refusal::EmptyPsdu);

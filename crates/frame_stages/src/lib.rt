@@ -1,4 +1,5 @@
-//! A frame after each stage of the transmitter, as values and as texts (IEEE Std 802.11-2012, 18.3.5).
+//! A frame after each stage of the transmitter, as values and as texts (IEEE Std 802.11-2012,
+//! 18.3.5).
 #![tactic(auto)]
 
 ghost use Rattle.std.specs.Prelude.{◌≡◌, length, IfOk};
@@ -19,9 +20,10 @@ mod stages;
 pub use lines::{pairs_text, samples_text};
 pub use stages::{code, interleaved_code, points};
 
-/// The text of a stage of the transmitter, for a PSDU of 1 to 4095 octets: the stage's bits as characters `0` and
-/// `1`, and then a newline; or the points, one line `I Q` each in decimal, 48 for each DATA symbol in the order of data
-/// numbers; or the samples of the frame, one line `I Q` each (own). The only error is want of memory.
+/// The text of a stage of the transmitter, for a PSDU of 1 to 4095 octets: the stage's bits as
+/// characters `0` and `1`, and then a newline; or the points, one line `I Q` each in decimal, 48 for
+/// each DATA symbol in the order of data numbers; or the samples of the frame, one line `I Q` each
+/// (own). The only error is want of memory.
 pub fn stage_text(
     alloc: Global,
     stage: Stage,

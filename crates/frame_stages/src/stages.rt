@@ -16,8 +16,8 @@ use rate_table::Rate;
 use std::alloc::{AllocError, Global};
 use symbol_builder::frame_field;
 
-/// The code of the DATA field before puncturing, two bits for each of the field, for a PSDU of 1 to 4095 octets
-/// (IEEE Std 802.11-2012, 18.3.5.6). The only error is want of memory.
+/// The code of the DATA field before puncturing, two bits for each of the field, for a PSDU of 1 to
+/// 4095 octets (18.3.5.6). The only error is want of memory.
 pub fn code(alloc: Global, rate: Rate, seed: Seed, psdu: &[u8]) -> Result<Vec<u8>, AllocError>
     requires { IsLength (length psdu.now) }
     ensures code { IfOk result (λ code. code.items ≡ code_at rate seed psdu.now) }
@@ -30,8 +30,8 @@ pub fn code(alloc: Global, rate: Rate, seed: Seed, psdu: &[u8]) -> Result<Vec<u8
     encode(alloc, &field)
 }
 
-/// The bits of all the DATA field's symbols after interleaving, for a PSDU of 1 to 4095 octets (IEEE Std 802.11-2012,
-/// 18.3.5.7). The only error is want of memory.
+/// The bits of all the DATA field's symbols after interleaving, for a PSDU of 1 to 4095 octets
+/// (18.3.5.7). The only error is want of memory.
 pub fn interleaved_code(
     alloc: Global,
     rate: Rate,
@@ -54,7 +54,8 @@ pub fn interleaved_code(
 fn push_interleaved(bits: &mut Vec<u8>, rate: Rate, symbol: &[u8]) -> Result<(), AllocError>
     requires whole { length symbol.now ≡ (row_of rate).coded_bits }
     requires bits { AreBits symbol.now }
-    ensures appended { OnOk result (bits.new.items ≡ bits.old.items ++ interleaved rate symbol.now) }
+    ensures appended { OnOk result
+        (bits.new.items ≡ bits.old.items ++ interleaved rate symbol.now) }
     ensures bits { AreBits bits.old.items → OnOk result (AreBits bits.new.items) }
 {
     let places = interleaved_symbol(rate, symbol);
@@ -62,8 +63,8 @@ fn push_interleaved(bits: &mut Vec<u8>, rate: Rate, symbol: &[u8]) -> Result<(),
     Ok(())
 }
 
-/// The points of all DATA symbols, 48 each in the order of data numbers, for a PSDU of 1 to 4095 octets
-/// (IEEE Std 802.11-2012, 18.3.5.8). The only error is want of memory.
+/// The points of all DATA symbols, 48 each in the order of data numbers, for a PSDU of 1 to 4095
+/// octets (18.3.5.8). The only error is want of memory.
 pub fn points(alloc: Global, rate: Rate, seed: Seed, psdu: &[u8]) -> Result<Vec<Cx>, AllocError>
     requires { IsLength (length psdu.now) }
     ensures { IfOk result (λ points. points.items ≡ points_at rate seed psdu.now) }

@@ -1,4 +1,5 @@
-//! A modem for the OFDM physical layer of 802.11a at 20 MHz channel spacing, in whole numbers: the program.
+//! A modem for the OFDM physical layer of 802.11a at 20 MHz channel spacing, in whole numbers: the
+//! program.
 #![tactic(auto)]
 
 use modem_ports::{StdSink, StdSource, Steps};
@@ -15,7 +16,8 @@ pub use command_words::read_words;
 pub use frame_stages::stage_text;
 pub use program::run;
 
-// The code where the words of the command line can't be had for another cause than want of memory: that of no status.
+// The code where the words of the command line can't be had for another cause than want of memory:
+// that of no status.
 const NO_WORDS: u8 = 9;
 
 fn main(rt: HostRuntime) -> ExitCode {

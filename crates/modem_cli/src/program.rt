@@ -22,13 +22,14 @@ use modem_ports::{Sink, Source, Steps, write_all};
 use report_lines::{Refusal, Status, line_of};
 use std::alloc::Global;
 
-/// One run (own): the words are those of the command line without the program's name, `source` is read where the
-/// command reads its input, `out` takes the command's bytes and `report` the line of a refusal. `steps` counts the
-/// steps of the trellis. It has no condition.
+/// One run (own): the words are those of the command line without the program's name, `source` is read
+/// where the command reads its input, `out` takes the command's bytes and `report` the line of a
+/// refusal. `steps` counts the steps of the trellis. It has no condition.
 ///
-/// The words are judged first, and the source isn't touched where they are refused (`BadWords`). Then the input is
-/// read: `ReadFault` at a read that fails, `BadInput` at the byte that passes the limit or for an empty PSDU. `out`
-/// is written only once all memory was taken, so `NoMemory` leaves it untouched; `WriteFault` leaves a prefix.
+/// The words are judged first, and the source isn't touched where they are refused (`BadWords`). Then
+/// the input is read: `ReadFault` at a read that fails, `BadInput` at the byte that passes the limit or
+/// for an empty PSDU. `out` is written only once all memory was taken, so `NoMemory` leaves it
+/// untouched; `WriteFault` leaves a prefix.
 pub fn run<S: Source, K: Sink, E: Sink>(
     alloc: Global,
     words: &Vec<String>,
@@ -37,17 +38,20 @@ pub fn run<S: Source, K: Sink, E: Sink>(
     report: &mut E,
     steps: &mut Steps,
 ) -> Status
-    // What is written: with `Ok` all bytes of the outcome, with `WriteFault` a prefix of them, else nothing.
+    // What is written: with `Ok` all bytes of the outcome, with `WriteFault` a prefix of them, else
+    // nothing.
     ensures written { result ≡ Status.Ok
         → TakesAnswer (texts_of words.now) (S.left source.old) (K.taken out.old) (K.taken out.new) }
     ensures written_in_part { result ≡ Status.WriteFault
-        → TakesAnswerPrefix (texts_of words.now) (S.left source.old) (K.taken out.old) (K.taken out.new) }
+        → TakesAnswerPrefix (texts_of words.now) (S.left source.old)
+            (K.taken out.old) (K.taken out.new) }
     ensures out_untouched { result ≢ Status.Ok → result ≢ Status.WriteFault → out.new ≡ out.old }
 
     // What is reported: with `Ok` nothing, else the line of the refusal.
     ensures unreported { result ≡ Status.Ok → report.new ≡ report.old }
-    ensures reported { result ≢ Status.Ok → IsReported (texts_of words.now) (S.left source.old) result
-        (E.taken report.old) (E.taken report.new) (Rose (E.faults report.old) (E.faults report.new)) }
+    ensures reported { result ≢ Status.Ok
+        → IsReported (texts_of words.now) (S.left source.old) result (E.taken report.old)
+            (E.taken report.new) (Rose (E.faults report.old) (E.faults report.new)) }
 
     // What is read.
     ensures read { (result ≡ Status.Ok) ⊎ (result ≡ Status.WriteFault) → (command : Command)
@@ -64,7 +68,8 @@ pub fn run<S: Source, K: Sink, E: Sink>(
 
     // When each status comes.
     ensures bad_words { (result ≡ Status.BadWords) ↔ AreRefused (texts_of words.now) }
-    ensures read_fault { result ≡ Status.ReadFault → Rose (S.faults source.old) (S.faults source.new) }
+    ensures read_fault { result ≡ Status.ReadFault
+        → Rose (S.faults source.old) (S.faults source.new) }
     ensures read_fault_within { result ≡ Status.ReadFault → (command : Command)
         → Say (texts_of words.now) command
         → GivesAtMost (most_accepted command) (S.left source.old) (S.left source.new) }
@@ -81,10 +86,12 @@ pub fn run<S: Source, K: Sink, E: Sink>(
         → HasOutcome (texts_of words.now) bytes (Refuses refusal)
         → (result ≡ status_of refusal) ⊎ (result ≡ Status.NoMemory)) }
 
-    // The text of a field's kept code with few flips, which `decode` is asked to read, gives that field's PSDU.
+    // The text of a field's kept code with few flips, which `decode` is asked to read, gives that
+    // field's PSDU.
     ensures repaired { ¬ Rose (S.faults source.old) (S.faults source.new)
         → ¬ Rose (K.faults out.old) (K.faults out.new)
-        → IfSome (S.left source.old) (λ bytes. (psdu : List ℕ) → IsFlippedText (texts_of words.now) bytes psdu
+        → IfSome (S.left source.old) (λ bytes. (psdu : List ℕ)
+        → IsFlippedText (texts_of words.now) bytes psdu
         → IsWrittenUnlessNoMemory result psdu (K.taken out.old) (K.taken out.new)) }
 
     // The counts of faults never fall.
@@ -102,7 +109,8 @@ pub fn run<S: Source, K: Sink, E: Sink>(
     }
 }
 
-// Reports a refusal, and answers its status. Where the report can't be written, the status is the same.
+// Reports a refusal, and answers its status. Where the report can't be written, the status is the
+// same.
 fn refuse<E: Sink>(report: &mut E, refusal: Refusal) -> Status
     ensures status { result ≡ status_of refusal }
     ensures reported { TakesReport refusal (E.taken report.old) (E.taken report.new)
@@ -125,17 +133,21 @@ fn execute<S: Source, K: Sink>(
     ensures ok { OnOk result
         (TakesAnswer (texts_of words.now) (S.left source.old) (K.taken out.old) (K.taken out.new)) }
     ensures in_part { IsErrOf result Refusal.WriteFault
-        → TakesAnswerPrefix (texts_of words.now) (S.left source.old) (K.taken out.old) (K.taken out.new) }
+        → TakesAnswerPrefix (texts_of words.now) (S.left source.old)
+            (K.taken out.old) (K.taken out.new) }
     ensures outcome { IfErr result (λ refusal. IsDecided (status_of refusal)
         → IsOutcome (texts_of words.now) (S.left source.old) (Refuses refusal)) }
     ensures words { IsErrOf result Refusal.Words ↔ SayNothing (texts_of words.now) }
     ensures source_untouched { IsErrOf result Refusal.Words → source.new ≡ source.old }
-    ensures out_untouched { IfErr result (λ refusal. refusal ≢ Refusal.WriteFault → out.new ≡ out.old) }
+    ensures out_untouched { IfErr result (λ refusal.
+        refusal ≢ Refusal.WriteFault → out.new ≡ out.old) }
     ensures reads { (command : Command) → Say (texts_of words.now) command
         → Reads (reads command) (S.left source.old) (S.left source.new)
         (S.faults source.old) (S.faults source.new) (result_err result) }
-    ensures read_fault { IsErrOf result Refusal.ReadFault → Rose (S.faults source.old) (S.faults source.new) }
-    ensures write_fault { IsErrOf result Refusal.WriteFault → Rose (K.faults out.old) (K.faults out.new) }
+    ensures read_fault { IsErrOf result Refusal.ReadFault
+        → Rose (S.faults source.old) (S.faults source.new) }
+    ensures write_fault { IsErrOf result Refusal.WriteFault
+        → Rose (K.faults out.old) (K.faults out.new) }
     ensures source_counted { S.faults source.old ≤ S.faults source.new }
     ensures out_counted { K.faults out.old ≤ K.faults out.new }
 {
