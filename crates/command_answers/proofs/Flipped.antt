@@ -7,7 +7,6 @@ use Rattle.modem_links.specs.Laws.{FewFlips}
 use Rattle.modem_ports.specs.Limits.{most_input}
 use Rattle.rate_table.proofs.ByRate.{by_rate}
 use Rattle.rate_table.specs.declared.Rate.{Rate}
-use Rattle.rate_table.specs.Table.{row_of}
 use Rattle.command_answers.specs.Decoding.{bits_needed}
 use Rattle.command_answers.specs.InOrder.{passed, with_it}
 use Rattle.command_answers.specs.Laws.{FlippedTextGivesItsPsdu}

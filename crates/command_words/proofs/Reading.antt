@@ -1,5 +1,5 @@
 -- The command that words say, read back from them: so no two commands have the same words, and words say a command or none.
-use Rattle.std.proofs.Common.{◌≡◌, ◌<◌, ◌^◌, ◌⊎◌, inl, inr, ℕ, Bool, true, false, List, [], ◌∷◌, Option, Some, None, codes, decimal, cond, refl, ap, ◌∙◌, subst, lit<, arith}
+use Rattle.std.proofs.Common.{◌≡◌, ◌<◌, ◌^◌, ◌⊎◌, inl, inr, ℕ, Bool, true, false, List, [], ◌∷◌, Option, Some, None, codes, decimal, cond, refl, ap, ◌∙◌, subst, lit≤, arith}
 use Rattle.std.proofs.lemmas.Bool.{cases_lt, false≢true}
 use Rattle.std.proofs.lemmas.Fmt.{decimal_is_IsNumeral}
 use Rattle.std.proofs.lemmas.Slice.Eq.{slice_eq-Decides, bytes_eq-Decides}
@@ -27,15 +27,18 @@ number_back : (number : ℕ) → number < 2 ^ 64 → number_in (decimal number) 
 unfolding number_in
 number_back number small = (decimal_is_IsNumeral number small).1
 
-pub mbps_fits : (rate : Rate) → (row_of rate).mbps < 2 ^ 64
-mbps_fits = by_rate (λ rate. (row_of rate).mbps < 2 ^ 64) (lit< tt) (lit< tt) (lit< tt) (lit< tt) (lit< tt) (lit< tt) (lit< tt) (lit< tt)
+-- a rate's megabits a second are from 6 to 60
+pub mbps_from : (rate : Rate) → IsFrom 6 60 (row_of rate).mbps
+mbps_from =
+    by_rate (λ rate. IsFrom 6 60 (row_of rate).mbps)
+    (lit≤ tt, lit≤ tt) (lit≤ tt, lit≤ tt) (lit≤ tt, lit≤ tt) (lit≤ tt, lit≤ tt) (lit≤ tt, lit≤ tt) (lit≤ tt, lit≤ tt) (lit≤ tt, lit≤ tt) (lit≤ tt, lit≤ tt)
 
 rate_in : List ℕ → Rate
 rate_in word = rate_of_mbps (number_in word)
 
 rate_back : (rate : Rate) → rate_in (rate_word rate) ≡ rate
 unfolding rate_in
-rate_back rate = ap rate_of_mbps (number_back (row_of rate).mbps (mbps_fits rate)) ∙ rate_of_mbps-of rate
+rate_back rate = ap rate_of_mbps (number_back (row_of rate).mbps (let range = mbps_from rate in omega (arith, range.1))) ∙ rate_of_mbps-of rate
 
 stage_in : List ℕ → Stage
 stage_in word =

@@ -1,5 +1,6 @@
--- The words that say a command (own). A number is in decimal digits with no sign and no leading zero.
-use Rattle.std.specs.Prelude.{Vec, String, string_bytes, map, ℕ, ◌≤◌, ◌<◌, ◌^◌, ◌≡◌, ◌≢◌, List, [], ◌∷◌, codes, decimal}
+-- The words that say a command (own). A number is in decimal digits with no sign and no leading
+-- zero.
+use Rattle.std.specs.Prelude.{Vec, String, string_bytes, map, ℕ, ◌≤◌, ◌≡◌, ◌≢◌, List, [], ◌∷◌, codes, decimal}
 use Rattle.std.specs.Global.{Global}
 use Rattle.rate_table.specs.declared.Rate.{Rate}
 use Rattle.rate_table.specs.Symbols.{IsLength}
@@ -33,7 +34,8 @@ abbrev pub words_of : Command → List (List ℕ)
 words_of (Bits rate seed) = codes "bits" ∷ rate_word rate ∷ decimal seed ∷ []
 words_of (Decode rate octets) = codes "decode" ∷ rate_word rate ∷ decimal octets ∷ []
 words_of (Send rate seed) = codes "send" ∷ rate_word rate ∷ decimal seed ∷ []
-words_of (Show stage rate seed) = codes "show" ∷ stage_word stage ∷ rate_word rate ∷ decimal seed ∷ []
+words_of (Show stage rate seed) =
+    codes "show" ∷ stage_word stage ∷ rate_word rate ∷ decimal seed ∷ []
 
 -- the numbers of a command are within their ranges
 abbrev pub IsInRange : Command → Type 0
@@ -58,10 +60,6 @@ IsFrom least most number = (least ≤ number) × (number ≤ most)
 -- a word writes no number from a least to a most one
 abbrev pub WritesNoneFrom : ℕ → ℕ → List ℕ → Type 0
 WritesNoneFrom least most word = (number : ℕ) → IsFrom least most number → word ≢ decimal number
-
--- a word writes no number that a `u32` holds
-abbrev pub WritesNoNumber : List ℕ → Type 0
-WritesNoNumber word = (number : ℕ) → number < 2 ^ 32 → word ≢ decimal number
 
 -- a word names no rate
 abbrev pub NamesNoRate : List ℕ → Type 0

@@ -5,10 +5,10 @@ ghost use Rattle.command_words.specs.Grammar.{NamesNoStage, Say, SayNothing, sta
 use crate::numbers::{read_length, read_rate, read_seed};
 use crate::{Command, Stage};
 
-/// The command that the words say, without the program's name (own): `None` exactly where they say none. RATE is a
-/// number of megabits a second, 6 to 54 by the table of the rates, SEED is from 1 to 127 and LENGTH from 1 to 4095, all
-/// in decimal digits with no sign and no leading zero; a stage is `scrambled`, `coded`, `kept`, `interleaved`, `points`,
-/// `header` or `samples`. Takes no memory.
+/// The command that the words say, without the program's name (own): `None` exactly where they say
+/// none. RATE is a number of megabits a second, 6 to 54 by the table of the rates, SEED is from 1 to
+/// 127 and LENGTH from 1 to 4095, all in decimal digits with no sign and no leading zero; a stage is
+/// `scrambled`, `coded`, `kept`, `interleaved`, `points`, `header` or `samples`. Takes no memory.
 pub fn read_words(words: &Vec<String>) -> Option<Command>
     ensures command { IfSome result (Say (texts_of words.now)) }
     ensures none { IfNone result (SayNothing (texts_of words.now)) }

@@ -35,7 +35,8 @@ report_of EmptyPsdu = codes "error 2: empty psdu"
 report_of LongPsdu = codes "error 3: psdu over 4095 octets"
 report_of LongCapture = codes "error 5: input over 67108864 bytes"
 report_of (BadBit at) = codes "error 6: no bit at " ++ decimal at
-report_of (BitCount have need) = codes "error 7: " ++ decimal have ++ codes " bits, need " ++ decimal need
+report_of (BitCount have need) =
+    codes "error 7: " ++ decimal have ++ codes " bits, need " ++ decimal need
 report_of ReadFault = codes "error 10: read fault"
 report_of WriteFault = codes "error 11: write fault"
 report_of NoMemory = codes "error 12: no memory"
@@ -55,8 +56,8 @@ IsDecided status.ReadFault = ⊥
 IsDecided status.WriteFault = ⊥
 IsDecided status.NoMemory = ⊥
 
--- the steps of a run, in their order: the words are judged, the input is read, the answer is found, the answer is written.
--- Memory may be wanted at any
+-- the steps of a run, in their order: the words are judged, the input is read, the answer is found, the
+-- answer is written. Memory may be wanted at any
 pub data Step : Type 0 where
   asking : Step
   reading : Step

@@ -33,7 +33,8 @@ pub enum Status {
 }
 
 impl Status {
-    /// The code with which the program ends: 0, or 2 to 8 in the order of the refusing statuses (own). Takes no memory.
+    /// The code with which the program ends: 0, or 2 to 8 in the order of the refusing statuses (own).
+    /// Takes no memory.
     pub fn code(self) -> u8
         ensures { result ≡ code_of_status self }
     {
@@ -61,7 +62,8 @@ pub enum Refusal {
     LongPsdu,
     /// Byte 67108865 of an input that is no PSDU was taken.
     LongCapture,
-    /// The least place of a text of bits, counted from 0, that holds neither `0` nor `1`, the final newline excepted.
+    /// The least place of a text of bits, counted from 0, that holds neither `0` nor `1`, the final
+    /// newline excepted.
     BadBit { at: usize },
     /// The text has `have` bits, and the words ask for another number, `need`.
     BitCount { have: u32, need: u32 },

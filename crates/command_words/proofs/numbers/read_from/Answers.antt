@@ -1,10 +1,8 @@
-use Rattle.std.proofs.Common.{◌≡◌, arith}
-use Rattle.std.proofs.lemmas.Fmt.{decimal_injective}
+use Rattle.std.proofs.Common.{◌∙◌}
 use Rattle.command_words.proofs.numbers.read_from.Goals as goal
 
--- no number of the range is written here, since the number that is written isn't within it
-pub returns-then-number-least-clause-none : goal.returns-then-number-least-clause-none
-returns-then-number-least-clause-none c = λ number range same.
-    let written : c.in_ok-number.number ≡ number =
-    decimal_injective c.in_ok-number.number number (omega (arith, c.in_ok-number.ensures.fits)) (omega (arith, range.1, c.ranges.most.fits)) (let is = c.in_ok-number.ensures.number in cc) in
-    omega (arith, range.0, range.1, written, c.then-number-least.either)
+-- a number of the range has no bad place
+pub returns-in-Err-clause-none : goal.returns-in-Err-clause-none
+returns-in-Err-clause-none c = λ number range same.
+    c.places_of_numbers.ensures.none c.args.least c.args.most c.as_bytes.result.now c.in-Err.field-0
+    (number, record { from = range.0; up_to = range.1; is = c.as_bytes.ensures.value ∙ same }) c.in-Err.ensures.bad
