@@ -2,7 +2,7 @@
 ghost use Rattle.std.specs.Prelude.{◌≡◌, ℕ, ◌+◌, ◌*◌, ◌/◌, ◌^◌, ◌<◌, ◌≤◌, false, length, nat_lt, unsigned_abs};
 ghost use Rattle.lane_kernels.specs.Kernels.{first_loud_of, is_loud};
 ghost use Rattle.fixed_complex.specs.Samples.{sample_at};
-ghost use Rattle.lane_kernels.specs.Lanes.{AreOf16Bits, eight};
+ghost use Rattle.lane_kernels.specs.Lanes.{AreOf16Bits};
 ghost use Rattle.fixed_complex.specs.Numbers.{number_at};
 
 use crate::lanes::{i_components, q_components};

@@ -44,14 +44,14 @@ pub fn run<S: Source, K: Sink, E: Sink>(
         → TakesAnswer (texts_of words.now) (S.left source.old) (K.taken out.old) (K.taken out.new) }
     ensures written_in_part { result ≡ Status.WriteFault
         → TakesAnswerPrefix (texts_of words.now) (S.left source.old)
-            (K.taken out.old) (K.taken out.new) }
+        (K.taken out.old) (K.taken out.new) }
     ensures out_untouched { result ≢ Status.Ok → result ≢ Status.WriteFault → out.new ≡ out.old }
 
     // What is reported: with `Ok` nothing, else the line of the refusal.
     ensures unreported { result ≡ Status.Ok → report.new ≡ report.old }
     ensures reported { result ≢ Status.Ok
         → IsReported (texts_of words.now) (S.left source.old) result (E.taken report.old)
-            (E.taken report.new) (Rose (E.faults report.old) (E.faults report.new)) }
+        (E.taken report.new) (Rose (E.faults report.old) (E.faults report.new)) }
 
     // What is read.
     ensures read { (result ≡ Status.Ok) ⊎ (result ≡ Status.WriteFault) → (command : Command)
@@ -134,7 +134,7 @@ fn execute<S: Source, K: Sink>(
         (TakesAnswer (texts_of words.now) (S.left source.old) (K.taken out.old) (K.taken out.new)) }
     ensures in_part { IsErrOf result Refusal.WriteFault
         → TakesAnswerPrefix (texts_of words.now) (S.left source.old)
-            (K.taken out.old) (K.taken out.new) }
+        (K.taken out.old) (K.taken out.new) }
     ensures outcome { IfErr result (λ refusal. IsDecided (status_of refusal)
         → IsOutcome (texts_of words.now) (S.left source.old) (Refuses refusal)) }
     ensures words { IsErrOf result Refusal.Words ↔ SayNothing (texts_of words.now) }

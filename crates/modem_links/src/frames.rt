@@ -1,5 +1,5 @@
 //! Frames, from a PSDU to samples and bytes (IEEE Std 802.11-2012, 18.3.2.1).
-ghost use Rattle.std.specs.Prelude.{◌≡◌, ℕ, ◌+◌, ◌*◌, ◌≤◌, ◌++◌, List, length, take, slice_index, IfOk, OnOk, IsErrOf, alloc_error};
+ghost use Rattle.std.specs.Prelude.{◌≡◌, ℕ, ◌+◌, ◌*◌, ◌≤◌, ◌++◌, length, take, slice_index, IfOk, OnOk, IsErrOf, alloc_error};
 ghost use Rattle.bit_lists.specs.Bits.{AreBits};
 ghost use Rattle.fixed_complex.specs.PairLists.{PairsWithin};
 ghost use Rattle.fixed_complex.specs.declared.Cx.{Cx};
@@ -11,9 +11,9 @@ ghost use Rattle.modem_ports.specs.Told.{Takes, TakesPrefix};
 ghost use Rattle.rate_table.specs.Symbols.{IsLength, symbol_count};
 ghost use Rattle.rate_table.specs.Table.{row_of};
 ghost use Rattle.rate_table.specs.declared.Rate.TheVariants.{R6};
-ghost use Rattle.symbol_builder.specs.Carriers.{plain_symbol, sent_symbol};
+ghost use Rattle.symbol_builder.specs.Carriers.{sent_symbol};
 ghost use Rattle.symbol_builder.specs.Points.{points_of_code};
-ghost use Rattle.plain_waves.specs.Bodies.{plain_body, sent_body};
+ghost use Rattle.plain_waves.specs.Bodies.{sent_body};
 ghost use Rattle.fixed_complex.specs.Samples.{SamplesWithin};
 ghost use Rattle.plain_waves.specs.Nearness.{AreNearPlain};
 ghost use Rattle.training_fields.specs.Training.{preamble_of};

@@ -1,9 +1,8 @@
 //! Both ends of the link over whole fields and frames (IEEE Std 802.11-2012, 18.3).
 #![tactic(auto)]
 
-ghost use Rattle.std.specs.Prelude.{◌≡◌, ℕ, ◌+◌, ◌*◌, ◌≤◌, ◌⊎◌, List, length, take, drop, vec_len, IfOk, OnOk, OnErr};
+ghost use Rattle.std.specs.Prelude.{◌≡◌, ℕ, ◌+◌, ◌*◌, ◌≤◌, ◌⊎◌, List, length, take, drop, IfOk, OnOk, OnErr};
 ghost use Rattle.bit_lists.specs.Bits.{AreBits, AreOctets, bits_of_octets};
-ghost use Rattle.data_field.specs.Field.{field_length};
 ghost use Rattle.data_field.specs.Stages.{kept_at};
 ghost use Rattle.modem_links.specs.Fields.{IsFieldOf, NamesFront, flips, psdu_in};
 ghost use Rattle.modem_ports.specs.Counts.{raised_by};

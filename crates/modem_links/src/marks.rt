@@ -1,5 +1,5 @@
 //! The marks of decisions: those of kept places, in order, and absent ones.
-ghost use Rattle.std.specs.Prelude.{◌≡◌, ℕ, ◌+◌, ◌*◌, ◌<◌, ◌≤◌, [], true, length};
+ghost use Rattle.std.specs.Prelude.{◌≡◌, ◌+◌, ◌*◌, ◌<◌, ◌≤◌, [], true, length};
 ghost use Rattle.modem_ports.specs.Counts.{raised_by};
 ghost use Rattle.puncture_map.specs.Kept.{is_kept, kept_count, rank};
 ghost use Rattle.viterbi_lanes.specs.Decisions.{mark_at, marks_at, marks_of};

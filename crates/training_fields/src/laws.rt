@@ -1,12 +1,8 @@
 //! What holds of the signs of the training fields, and of the samples that are sent. The functions do nothing: what
 //! each ensures is the law.
 
-ghost use Rattle.std.specs.Prelude.{◌≡◌, ◌&&◌, ◌++◌, ℕ, List, nat_lt, ℤ, unsigned_abs, if◌then◌else◌};
-ghost use Rattle.fixed_complex.specs.PairLists.{PairsWithin, entry};
-ghost use Rattle.fixed_complex.specs.declared.Cx.{Cx};
-ghost use Rattle.fixed_complex.specs.declared.Sample.{Sample};
-ghost use Rattle.plain_waves.specs.Bodies.{all_times, plain_body, sent_body};
-ghost use Rattle.plain_waves.specs.Bounds.{FitASample};
+ghost use Rattle.std.specs.Prelude.{◌≡◌, ◌&&◌, nat_lt, ℤ, unsigned_abs, if◌then◌else◌};
+ghost use Rattle.plain_waves.specs.Bodies.{plain_body, sent_body};
 ghost use Rattle.fixed_complex.specs.Samples.{SamplesWithin};
 ghost use Rattle.plain_waves.specs.Nearness.{AreNearPlain};
 ghost use Rattle.training_fields.specs.Training.{long_sign_of, preamble_of};

@@ -1,15 +1,11 @@
 //! The training fields of a frame (IEEE Std 802.11-2012, 18.3.3). No call takes memory.
 #![tactic(auto)]
 
-ghost use Rattle.std.specs.Prelude.{◌≡◌, ℕ, ◌+◌, ◌*◌, ◌^◌, ◌<◌, ◌≤◌, ◌++◌, map, unsigned_abs};
-ghost use Rattle.fixed_complex.specs.Pairs.{IsWithin};
-ghost use Rattle.fixed_complex.specs.Rounding.{half_up};
-ghost use Rattle.fixed_complex.specs.PairLists.{PairsWithin, by_256, entry};
-ghost use Rattle.fixed_complex.specs.Samples.{sample_at, SamplesWithin, IsSampleWithin};
+ghost use Rattle.std.specs.Prelude.{◌≡◌, ◌+◌, ◌*◌, ◌<◌, ◌≤◌, ◌++◌, unsigned_abs};
+ghost use Rattle.fixed_complex.specs.Samples.{sample_at, SamplesWithin};
 ghost use Rattle.carrier_bins.specs.Signs.{sign_at, sign_of};
 ghost use Rattle.carrier_bins.specs.Bins.{all_bins, carrier_in};
-ghost use Rattle.plain_waves.specs.Bodies.{all_times, plain_body, plain_sample, sample_of, sent_body};
-ghost use Rattle.plain_waves.specs.Bounds.{FitASample};
+ghost use Rattle.plain_waves.specs.Bodies.{plain_body, sent_body};
 ghost use Rattle.plain_waves.specs.Nearness.{AreNearPlain};
 ghost use Rattle.training_fields.specs.Training.{long_carrier, long_sign_of, long_times, preamble_of, short_carrier, short_sign_of, short_times, template_of};
 
