@@ -1,7 +1,7 @@
 //! The DATA field of a frame, and the symbols of its bits (IEEE Std 802.11-2012, 18.3.5).
 #![tactic(auto)]
 
-ghost use Rattle.std.specs.Prelude.{◌≡◌, ℕ, ◌+◌, ◌*◌, ◌%◌, ◌<◌, ◌≤◌, length, take, drop, pos, negsuc};
+ghost use Rattle.std.specs.Prelude.{◌≡◌, ◌+◌, ◌*◌, ◌%◌, length, take};
 ghost use Rattle.bit_lists.specs.Bits.{AreBits};
 ghost use Rattle.fixed_complex.specs.Pairs.{IsWithin};
 ghost use Rattle.constellations.specs.Points.{point_of};
@@ -10,7 +10,7 @@ ghost use Rattle.rate_table.specs.declared.Rate.{Rate};
 ghost use Rattle.rate_table.specs.Table.{bits_of_modulation, row_of};
 ghost use Rattle.rate_table.specs.Symbols.{IsLength, symbol_count};
 ghost use Rattle.symbol_builder.specs.Carriers.{polarity_of};
-ghost use Rattle.symbol_builder.specs.Points.{point_at, points_of};
+ghost use Rattle.symbol_builder.specs.Points.{points_of};
 
 use constellations::point;
 use fixed_complex::Cx;
