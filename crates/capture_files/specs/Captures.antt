@@ -1,5 +1,5 @@
 -- Captures: samples as bytes (own).
-use Rattle.std.specs.Prelude.{ℕ, ◌%◌, ◌≢◌, List, ◌++◌, ℤ, FitsSigned, All}
+use Rattle.std.specs.Prelude.{ℕ, ◌%◌, ◌≢◌, List, ◌++◌, ℤ}
 use Rattle.std.specs.Int.{w16, bytes_low_first, cast_unsigned}
 use Rattle.std.specs.List.{flat_map}
 use Rattle.fixed_complex.specs.declared.Sample.{Sample}

@@ -1,7 +1,7 @@
 //! Whole-number pairs, the samples of a capture, rounding, and the turns of a circle (own). No call takes memory.
 #![tactic(auto)]
 
-ghost use Rattle.std.specs.Prelude.{◌≡◌, ℕ, ◌*◌, ◌^◌, ◌<◌, ◌≤◌, ◌*ℤ◌, unsigned_abs};
+ghost use Rattle.std.specs.Prelude.{◌≡◌, ◌*◌, ◌^◌, ◌<◌, ◌≤◌, ◌*ℤ◌, unsigned_abs};
 ghost use Rattle.fixed_complex.specs.Pairs.{IsWithin, conjugate, minus, plus, scaled_product, times};
 ghost use Rattle.fixed_complex.specs.Rounding.{half_up};
 ghost use Rattle.fixed_complex.specs.Turns.{cosine_at, turn_at};

@@ -1,6 +1,6 @@
 -- The ring law on pairs of whole numbers, each read as a complex number: two expressions in pairs are equal, component
 -- by component, where the normal forms of both components are the same.
-use Rattle.std.proofs.Common.{◌≡◌, ℕ, zero, suc, ◌*◌, Bool, true, false, ◌&&◌, List, [], ◌∷◌, refl}
+use Rattle.std.proofs.Common.{◌≡◌, ℕ, zero, suc, ◌*◌, Bool, true, ◌&&◌, List, [], ◌∷◌}
 use Rattle.std.specs.Prelude.{ℤ}
 use Rattle.std.proofs.lemmas.Bool.{and_parts}
 use Rattle.integer_laws.proofs.Ring.{Expr, variable, number, negated, ◌⊕◌, ◌⊖◌, ◌⊗◌, value, same, same_value}
