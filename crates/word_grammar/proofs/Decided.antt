@@ -176,7 +176,8 @@ begins_with_or_not byte (x ∷ text) =
       | inr other ↦ inr (λ h. other (ap (λ l. get_or l 0 0) h.1))
     ]
 
-behind_space : (space : ℕ) (text rest : List ℕ) (end : ℕ) → drop (end + 1) text ≡ space ∷ rest → drop (end + 1) text ≡ space ∷ drop (end + 2) text
+-- what stands behind a space
+pub behind_space : (space : ℕ) (text rest : List ℕ) (end : ℕ) → drop (end + 1) text ≡ space ∷ rest → drop (end + 1) text ≡ space ∷ drop (end + 2) text
 behind_space space text rest end e =
     let count : end + 1 + 1 ≡ end + 2 = omega arith in
     let same : drop (end + 2) text ≡ rest = ap (λ n. drop n text) (sym count) ∙ sym (drop-drop 1 (end + 1) text) ∙ ap (drop 1) e in
