@@ -1,3 +1,5 @@
+pub mod Effects
 pub mod Items
 pub mod Keys
+pub mod Noise
 pub mod Scripts

@@ -2,16 +2,22 @@
 //! (own).
 #![tactic(auto)]
 
-ghost use Rattle.std.specs.Prelude.{◌≡◌, [], ◌∷◌, ◌++◌, ◌<◌, ◌≤◌, length, IfOk, IfErr};
+ghost use Rattle.std.specs.Prelude.{◌≡◌, [], ◌∷◌, ◌++◌, ◌^◌, ◌<◌, ◌≤◌, length, vec_len, All, IfOk, IfErr, OnErr};
+ghost use Rattle.noise_script.specs.Effects.{after_items};
 ghost use Rattle.noise_script.specs.Items.{IsInRange};
 ghost use Rattle.noise_script.specs.Scripts.{IsScript, SaysScript, frame_text, place_of};
 ghost use Rattle.noise_script.specs.declared.Item.TheVariants.{Lead, Trail, Uniform};
 ghost use Rattle.word_grammar.specs.Places.{IsBadAt};
 
+use crate::applying::{added_by_all, apply_items};
+use fixed_complex::Sample;
+use std::alloc::AllocError;
 use std::marker::Model;
 use thiserror::Error;
 
+mod applying;
 pub mod laws;
+mod noise;
 mod reading;
 #[cfg(test)]
 mod tests;
@@ -117,8 +123,26 @@ impl Script {
 
     /// The items, in order (own). Takes no memory.
     pub fn items(&self) -> &[Item]
-        ensures { result.now ≡ self.now }
+        ensures items { result.now ≡ self.now }
+        ensures in_range { All IsInRange self.now }
+        ensures few { length self.now ≤ 16 }
     {
         &self.items[..self.count]
+    }
+
+    /// Applies the items to samples, one after the other, each to the list as it then is. Every sum is
+    /// held within -32768 to 32767 (own). Room for all samples is made first, and the only error is want
+    /// of memory, after which the samples are as they were. Before the call there are at most 2^24.
+    pub fn apply(&self, samples: &mut Vec<Sample>) -> Result<(), AllocError>
+        requires { vec_len samples.old ≤ 2 ^ 24 }
+        ensures after { IfOk result
+            (λ _. samples.new.items ≡ after_items self.now samples.old.items) }
+        ensures within { IfOk result (λ _. vec_len samples.new ≤ 2 ^ 25) }
+        ensures unchanged { OnErr result (samples.new.items ≡ samples.old.items) }
+    {
+        let items = self.items();
+        samples.reserve(added_by_all(items))?;
+        apply_items(items, samples);
+        Ok(())
     }
 }

@@ -20,7 +20,7 @@ returns-then-items-eq-MOST_ITEMS-clause-bad t c =
     let end : ℕ = c.word_end-end.result in
     let item : Item = c.in-Ok.item in
     let most : ℕ = 16 - length c.args.script.now in
-    let size = ap length (c.items.ensures ∙ c.push.ensures) ∙ length-append c.args.script.now (item ∷ []) in
+    let size = ap length (c.items.ensures.items ∙ c.push.ensures) ∙ length-append c.args.script.now (item ∷ []) in
     series_full 59 32 IsCounted MayGoOn one_less IsScript scripts most c.args.text.now end item c.word_end-end.ensures (omega (arith, c.word_end-end.ensures.within))
     (record { some = omega (arith, c.requires); says = c.in-Ok.ensures.item }) (λ m. omega (arith, m, size, c.if-items-eq-MOST_ITEMS.true))
 
@@ -29,7 +29,7 @@ returns-then-not-has_space-clause-bad t c =
     let end : ℕ = c.word_end-end.result in
     let item : Item = c.in-Ok.item in
     let most : ℕ = 16 - length c.args.script.now in
-    let size = ap length (c.items.ensures ∙ c.push.ensures) ∙ length-append c.args.script.now (item ∷ []) in
+    let size = ap length (c.items.ensures.items ∙ c.push.ensures) ∙ length-append c.args.script.now (item ∷ []) in
     let may : 2 ≤ most = omega (arith, size, c.requires, c.if-items-eq-MOST_ITEMS.false) in
     let none = rw take_rest at c.if-not-has_space.ensures.none in
     series_space 59 32 IsCounted MayGoOn one_less IsScript scripts most c.args.text.now end item c.word_end-end.ensures (omega (arith, c.word_end-end.ensures.within))
@@ -42,7 +42,7 @@ returns-in-Ok-read_items-clause-script t c =
     let item : Item = c.in-Ok.item in
     let most : ℕ = 16 - length c.args.script.now in
     let size = ap length c.push.ensures ∙ length-append c.args.script.now (item ∷ []) in
-    let items = ap length c.items.ensures in
+    let items = ap length c.items.ensures.items in
     let less : 16 - length c.push.new.self ≡ most - 1 = omega (arith, size) in
     let may : 2 ≤ most = omega (arith, size, items, c.requires, c.if-items-eq-MOST_ITEMS.false) in
     let space = rw take_rest at c.if-not-has_space.ensures.space in
@@ -61,7 +61,7 @@ returns-in-Err-read_items-clause-bad t c =
     let at : ℕ = c.in-Err-read_items.at in
     let most : ℕ = 16 - length c.args.script.now in
     let size = ap length c.push.ensures ∙ length-append c.args.script.now (item ∷ []) in
-    let items = ap length c.items.ensures in
+    let items = ap length c.items.ensures.items in
     let less : 16 - length c.push.new.self ≡ most - 1 = omega (arith, size) in
     let may : 2 ≤ most = omega (arith, size, items, c.requires, c.if-items-eq-MOST_ITEMS.false) in
     let space = rw take_rest at c.if-not-has_space.ensures.space in
