@@ -1,11 +1,15 @@
 -- The noise of uniform items, piece by piece.
-use Rattle.std.proofs.Common.{ℕ, zero, suc, ◌+◌, ◌-◌, ◌≤◌, ◌≡◌, List, [], ◌∷◌, ◌++◌, length, take, drop, refl, sym, ap, ◌∙◌, arith, append_assoc, append-nil, length-drop}
+use Rattle.std.proofs.Common.{ℕ, zero, suc, ◌+◌, ◌-◌, ◌<◌, ◌≤◌, ◌≡◌, List, [], ◌∷◌, ◌++◌, length, take, drop, refl, sym, ap, ◌∙◌, arith, append_assoc, append-nil, length-drop}
 use Rattle.std.proofs.lemmas.List.{drop-drop, drop_all, take_all}
 use Rattle.std.proofs.lemmas.Slice.{drop-put_mid, take-put_mid}
 use borrow.Rule.Slice.PartMut.{put_mid}
+use Rattle.std.proofs.lemmas.Int.{ints}
+use Rattle.std.specs.Prelude.{unsigned_abs}
 use Rattle.fixed_complex.specs.declared.Sample.{Sample}
+use Rattle.fixed_complex.specs.Samples.{IsSampleWithin, SamplesWithin, sample_at}
+use Rattle.rand_pcg.specs.Pcg.{pcg32}
 use Rattle.lane_kernels.specs.Kernels.{held_sum, held_sums}
-use Rattle.noise_script.specs.Noise.{behind_sample, behind_samples, noise_samples, sample_noise}
+use Rattle.noise_script.specs.Noise.{behind_sample, behind_samples, noise_of, noise_samples, sample_noise}
 use Rattle.rand_pcg.specs.Lcg.{Lcg}
 
 -- one sample's noise more
@@ -64,3 +68,25 @@ all_done bound from samples words l =
     ∙ ap (λ x. samples ++ held_sums x (noise_samples bound (length x) words)) (drop_all from samples l)
     ∙ ap (λ x. samples ++ x) (sums_of_none (noise_samples bound 0 words))
     ∙ append-nil samples
+
+-- noise is within its bound
+pub noise_bound : (bound word : ℕ) → unsigned_abs (noise_of bound word) ≤ bound
+noise_bound bound word = omega (arith, ints)
+
+sample_bound : (bound : ℕ) (words : Lcg) → IsSampleWithin bound (sample_noise bound words)
+unfolding sample_noise
+sample_bound bound words = record { i = noise_bound bound (pcg32 words).0; q = noise_bound bound (pcg32 (pcg32 words).1).0 }
+
+pub length-noise : (bound count : ℕ) (words : Lcg) → length (noise_samples bound count words) ≡ count
+unfolding noise_samples
+length-noise bound zero words = refl
+length-noise bound (suc count) words = ap suc (length-noise bound count (behind_sample words))
+
+noise_at : (bound count : ℕ) (words : Lcg) (n : ℕ) → n < count → IsSampleWithin bound (sample_at (noise_samples bound count words) n)
+unfolding noise_samples
+noise_at bound zero words n l = absurd (omega arith)
+noise_at bound (suc count) words zero l = sample_bound bound words
+noise_at bound (suc count) words (suc n) l = noise_at bound count (behind_sample words) n (omega arith)
+
+pub noise_within : (bound count : ℕ) (words : Lcg) → SamplesWithin bound (noise_samples bound count words)
+noise_within bound count words = record { each = λ n l. noise_at bound count words n (omega (arith, l, length-noise bound count words)) }

@@ -1,5 +1,5 @@
--- The noise of uniform items, from the words of a generator (own). The step from word to word is the one
--- that rand_pcg states.
+-- The noise of uniform items, from the words of a generator (own). The step from word to word is
+-- the one that rand_pcg states.
 use Rattle.std.specs.Prelude.{ℕ, zero, suc, ◌+◌, ◌*◌, ◌%◌, List, [], ◌∷◌, ℤ, pos, ◌-ℤ◌}
 use Rattle.fixed_complex.specs.declared.Sample.{Sample}
 use Rattle.rand_pcg.specs.Lcg.{Lcg, increment_of, started}

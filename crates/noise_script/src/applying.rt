@@ -94,7 +94,8 @@ fn add_spike(samples: &mut [Sample], at: usize, spike: Sample)
 fn cut(samples: &mut Vec<Sample>, at: usize, count: usize)
     requires at { at ≤ 33554432 }
     requires count { count ≤ 33554432 }
-    ensures items { samples.new.items ≡ take at samples.old.items ++ drop (at + count) samples.old.items }
+    ensures items { samples.new.items
+        ≡ take at samples.old.items ++ drop (at + count) samples.old.items }
     ensures len { vec_len samples.new ≤ vec_len samples.old }
     ensures capacity { vec_capacity samples.new ≡ vec_capacity samples.old }
 {

@@ -3,6 +3,7 @@
 #![tactic(auto)]
 
 ghost use Rattle.std.specs.Prelude.{◌≡◌, [], ◌∷◌, ◌++◌, ◌^◌, ◌<◌, ◌≤◌, length, vec_len, All, IfOk, IfErr, OnErr};
+ghost use Rattle.std.specs.Bool.{OnFalse, OnTrue};
 ghost use Rattle.noise_script.specs.Effects.{after_items};
 ghost use Rattle.noise_script.specs.Items.{IsInRange};
 ghost use Rattle.noise_script.specs.Scripts.{IsScript, SaysScript, frame_text, place_of};
@@ -44,8 +45,8 @@ pub enum Item {
 /// Why a text is no script (own).
 #[derive(Clone, Copy, Debug, PartialEq, Eq, Error)]
 pub enum ScriptFault {
-    /// The place, in bytes from 0, of the last byte of the shortest front of the text that begins no
-    /// script; the text's length, where the whole text begins one.
+    /// The place, in bytes from 0, of the last byte of the shortest front of the text that begins
+    /// no script; the text's length, where the whole text begins one.
     #[error("no script at {at}")]
     BadScript { at: usize },
 }
@@ -92,8 +93,17 @@ impl Script {
         self.count += 1;
     }
 
-    /// The script that a text says: one to 16 items, with a semicolon and one space between two, and one
-    /// space between the words of an item; no number has a leading zero (own). Takes no memory.
+    // Whether no other item has room.
+    fn is_full(&self) -> bool
+        ensures full { OnTrue result (length self.now ≡ 16) }
+        ensures room { OnFalse result (length self.now < 16) }
+    {
+        self.items().len() == MOST_ITEMS
+    }
+
+    /// The script that a text says: one to 16 items, with a semicolon and one space between two,
+    /// and one space between the words of an item; no number has a leading zero (own). Takes no
+    /// memory.
     pub fn read(text: &str) -> Result<Script, ScriptFault>
         ensures script { IfOk result (λ script. SaysScript 16 script text.now) }
         ensures bad { IfErr result (λ fault. IsBadAt (IsScript 16) text.now (place_of fault)) }
@@ -105,8 +115,8 @@ impl Script {
         }
     }
 
-    /// The script of the text `lead LEAD; uniform BOUND SEED; trail TRAIL` (own). `lead` and `trail` are
-    /// at most 1048576, and `bound` is at most 32767. Takes no memory.
+    /// The script of the text `lead LEAD; uniform BOUND SEED; trail TRAIL` (own). `lead` and `trail`
+    /// are at most 1048576, and `bound` is at most 32767. Takes no memory.
     pub fn of_frame(lead: u32, bound: u16, seed: u64, trail: u32) -> Script
         requires lead { lead ≤ 1048576 }
         requires bound { bound ≤ 32767 }
@@ -130,9 +140,10 @@ impl Script {
         &self.items[..self.count]
     }
 
-    /// Applies the items to samples, one after the other, each to the list as it then is. Every sum is
-    /// held within -32768 to 32767 (own). Room for all samples is made first, and the only error is want
-    /// of memory, after which the samples are as they were. Before the call there are at most 2^24.
+    /// Applies the items to samples, one after the other, each to the list as it then is. Every sum
+    /// is held within -32768 to 32767 (own). Room for all samples is made first, and the only error
+    /// is want of memory, after which the samples are as they were. Before the call there are at
+    /// most 2^24.
     pub fn apply(&self, samples: &mut Vec<Sample>) -> Result<(), AllocError>
         requires { vec_len samples.old ≤ 2 ^ 24 }
         ensures after { IfOk result

@@ -9,7 +9,7 @@ ghost use Rattle.word_grammar.specs.Names.{IsOneOf, most_shared};
 ghost use Rattle.word_grammar.specs.Places.{IsBadAt};
 ghost use Rattle.word_grammar.specs.Signs.{IsSigned, SaysSigned};
 
-use crate::{Item, MOST_ITEMS, Script};
+use crate::{Item, Script};
 use word_grammar::{number, shared_front, signed, word_end};
 
 // The most samples of a lead or a trail.
@@ -46,7 +46,7 @@ pub(crate) fn read_items(script: &mut Script, text: &[u8]) -> Result<(), usize>
     if end == text.len() {
         return Ok(());
     }
-    if script.items().len() == MOST_ITEMS {
+    if script.is_full() {
         return Err(end);
     }
     if !has_space(&text[end + 1..]) {

@@ -2,6 +2,10 @@ use crate::{Item, Script, ScriptFault};
 use fixed_complex::Sample;
 use std::test::Fail;
 
+// 17 items.
+const SEVENTEEN: &str = "lead 0; lead 0; lead 0; lead 0; lead 0; lead 0; lead 0; lead 0; lead 0; \
+    lead 0; lead 0; lead 0; lead 0; lead 0; lead 0; lead 0; lead 0";
+
 #[test]
 fn bad_scripts(rt: HostRuntime) -> Result<(), Fail> {
     let cases = [
@@ -21,6 +25,7 @@ fn bad_scripts(rt: HostRuntime) -> Result<(), Fail> {
         ("cut 33554433 1", 11),
         ("cut 0 33554433", 13),
         ("trail 1;  cut 1 1", 9),
+        (SEVENTEEN, 126),
     ];
     for (text, at) in cases {
         match Script::read(text) {
@@ -33,7 +38,7 @@ fn bad_scripts(rt: HostRuntime) -> Result<(), Fail> {
 
 #[test]
 fn what_items_do(rt: HostRuntime) -> Result<(), Fail> {
-    let cases: [(&str, &[(i16, i16)]); 9] = [
+    let cases: [(&str, &[(i16, i16)]); 11] = [
         ("lead 2; spike 1 5 -7; trail 1", &[(0, 0), (5, -7), (0, 0)]),
         (
             "lead 1; spike 0 30000 -30000; spike 0 30000 -30000",
@@ -45,7 +50,12 @@ fn what_items_do(rt: HostRuntime) -> Result<(), Fail> {
         ("trail 1; spike 0 1 2; lead 1", &[(0, 0), (1, 2)]),
         ("lead 2; uniform 0 9", &[(0, 0), (0, 0)]),
         ("uniform 1 0", &[]),
-        ("lead 2; uniform 15 7", &[(11, -3), (0, 0)]),
+        ("lead 2; uniform 15 7", &[(11, -3), (5, -2)]),
+        ("lead 300; uniform 15 7; cut 0 299", &[(9, -3)]),
+        (
+            "lead 1; uniform 32767 18446744073709551615",
+            &[(-32767, -21429)],
+        ),
     ];
     for (text, sent) in cases {
         let mut samples = Vec::new(rt.alloc());

@@ -15,22 +15,22 @@ returns-in-Err-clause-bad t c =
     series_item 59 32 IsCounted MayGoOn one_less IsScript scripts most c.args.text.now end c.in-Err.at c.word_end-end.ensures
     (bad_counted most (take end c.args.text.now) c.in-Err.at (omega (arith, c.requires)) c.in-Err.ensures.bad)
 
-pub returns-then-items-eq-MOST_ITEMS-clause-bad : goal.returns-then-items-eq-MOST_ITEMS-clause-bad
-returns-then-items-eq-MOST_ITEMS-clause-bad t c =
+pub returns-then-is_full-clause-bad : goal.returns-then-is_full-clause-bad
+returns-then-is_full-clause-bad t c =
     let end : ℕ = c.word_end-end.result in
     let item : Item = c.in-Ok.item in
     let most : ℕ = 16 - length c.args.script.now in
-    let size = ap length (c.items.ensures.items ∙ c.push.ensures) ∙ length-append c.args.script.now (item ∷ []) in
+    let size = ap length c.push.ensures ∙ length-append c.args.script.now (item ∷ []) in
     series_full 59 32 IsCounted MayGoOn one_less IsScript scripts most c.args.text.now end item c.word_end-end.ensures (omega (arith, c.word_end-end.ensures.within))
-    (record { some = omega (arith, c.requires); says = c.in-Ok.ensures.item }) (λ m. omega (arith, m, size, c.if-items-eq-MOST_ITEMS.true))
+    (record { some = omega (arith, c.requires); says = c.in-Ok.ensures.item }) (λ m. omega (arith, m, size, c.if-is_full.ensures.full))
 
 pub returns-then-not-has_space-clause-bad : goal.returns-then-not-has_space-clause-bad
 returns-then-not-has_space-clause-bad t c =
     let end : ℕ = c.word_end-end.result in
     let item : Item = c.in-Ok.item in
     let most : ℕ = 16 - length c.args.script.now in
-    let size = ap length (c.items.ensures.items ∙ c.push.ensures) ∙ length-append c.args.script.now (item ∷ []) in
-    let may : 2 ≤ most = omega (arith, size, c.requires, c.if-items-eq-MOST_ITEMS.false) in
+    let size = ap length c.push.ensures ∙ length-append c.args.script.now (item ∷ []) in
+    let may : 2 ≤ most = omega (arith, size, c.requires, c.if-is_full.ensures.room) in
     let none = rw take_rest at c.if-not-has_space.ensures.none in
     series_space 59 32 IsCounted MayGoOn one_less IsScript scripts most c.args.text.now end item c.word_end-end.ensures (omega (arith, c.word_end-end.ensures.within))
     (record { some = omega (arith, c.requires); says = c.in-Ok.ensures.item }) may none
@@ -42,9 +42,8 @@ returns-in-Ok-read_items-clause-script t c =
     let item : Item = c.in-Ok.item in
     let most : ℕ = 16 - length c.args.script.now in
     let size = ap length c.push.ensures ∙ length-append c.args.script.now (item ∷ []) in
-    let items = ap length c.items.ensures.items in
     let less : 16 - length c.push.new.self ≡ most - 1 = omega (arith, size) in
-    let may : 2 ≤ most = omega (arith, size, items, c.requires, c.if-items-eq-MOST_ITEMS.false) in
+    let may : 2 ≤ most = omega (arith, size, c.requires, c.if-is_full.ensures.room) in
     let space = rw take_rest at c.if-not-has_space.ensures.space in
     let read = rw take_rest at c.in-Ok-read_items.ensures.script in (
       item ∷ read.0,
@@ -61,9 +60,8 @@ returns-in-Err-read_items-clause-bad t c =
     let at : ℕ = c.in-Err-read_items.at in
     let most : ℕ = 16 - length c.args.script.now in
     let size = ap length c.push.ensures ∙ length-append c.args.script.now (item ∷ []) in
-    let items = ap length c.items.ensures.items in
     let less : 16 - length c.push.new.self ≡ most - 1 = omega (arith, size) in
-    let may : 2 ≤ most = omega (arith, size, items, c.requires, c.if-items-eq-MOST_ITEMS.false) in
+    let may : 2 ≤ most = omega (arith, size, c.requires, c.if-is_full.ensures.room) in
     let space = rw take_rest at c.if-not-has_space.ensures.space in
     let bad = rw take_rest at c.in-Err-read_items.ensures.bad in
     series_rest 59 32 IsCounted MayGoOn one_less IsScript scripts most text end at item c.word_end-end.ensures (omega (arith, c.word_end-end.ensures.within))
