@@ -1,6 +1,6 @@
 -- What items do to samples.
-use Rattle.std.proofs.Common.{ℕ, zero, suc, ◌+◌, ◌<◌, ◌≤◌, ◌≡◌, List, [], ◌∷◌, ◌++◌, length, take, drop, get_or, ℤ, refl, ap, ◌∙◌, arith}
-use Rattle.std.proofs.lemmas.List.{drop_at, drop_more, take_at}
+use Rattle.std.proofs.Common.{ℕ, zero, suc, ◌+◌, ◌<◌, ◌≤◌, ◌≡◌, List, [], ◌∷◌, ◌++◌, length, take, drop, get_or, ℤ, refl, ap, ◌∙◌, arith, length-append, pos}
+use Rattle.std.proofs.lemmas.List.{drop_at, drop_more, length-replicate, take_at}
 use Rattle.fixed_complex.specs.declared.Sample.{Sample}
 use Rattle.lane_kernels.specs.Kernels.{held_sums}
 use Rattle.noise_script.specs.Effects.{added_by, added_by_all, after_item, after_items, silence, spiked}
@@ -67,3 +67,16 @@ after_spike at i q samples = refl
 pub after_cut : (at count : ℕ) (samples : List Sample) → after_item (Cut at count) samples ≡ take at samples ++ drop (at + count) samples
 unfolding after_item
 after_cut at count samples = refl
+
+-- a frame's script
+pub after_frame : (lead bound seed trail : ℕ) (samples : List Sample) → after_items (Lead lead ∷ Uniform bound seed ∷ Trail trail ∷ []) samples ≡ held_sums (silence lead ++ samples) (noise_samples bound (lead + length samples) (generator_of seed)) ++ silence trail
+after_frame lead bound seed trail samples =
+    let longer : List Sample = silence lead ++ samples in
+    let size : length longer ≡ lead + length samples = length-append (silence lead) samples ∙ ap (λ n. n + length samples) (length-replicate lead (record { i = pos 0; q = pos 0 })) in
+    after_more (Lead lead) (Uniform bound seed ∷ Trail trail ∷ []) samples
+    ∙ ap (λ x. after_items (Uniform bound seed ∷ Trail trail ∷ []) x) (after_lead lead samples)
+    ∙ after_more (Uniform bound seed) (Trail trail ∷ []) longer
+    ∙ ap (λ x. after_items (Trail trail ∷ []) x) (after_uniform bound seed longer ∙ ap (λ n. held_sums longer (noise_samples bound n (generator_of seed))) size)
+    ∙ after_more (Trail trail) [] (held_sums longer (noise_samples bound (lead + length samples) (generator_of seed)))
+    ∙ after_none (after_item (Trail trail) (held_sums longer (noise_samples bound (lead + length samples) (generator_of seed))))
+    ∙ after_trail trail (held_sums longer (noise_samples bound (lead + length samples) (generator_of seed)))

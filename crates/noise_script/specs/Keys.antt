@@ -37,6 +37,7 @@ pub record SaysTwo (first second a b : ℕ) (text : List ℕ) : Type 0 where
   pub b_within : b ≤ second
   pub is : text ≡ decimal a ++ 32 ∷ decimal b
 
+-- some two
 abbrev pub AreTwo : ℕ → ℕ → List ℕ → Type 0
 AreTwo first second = SaysPair 32 (SaysNumber 0 first) (λ _. IsNumber 0 second)
 
@@ -46,6 +47,7 @@ pub record SaysComponents (i q : ℤ) (text : List ℕ) : Type 0 where
   pub q_fits : FitsSigned w16 q
   pub is : text ≡ signed_decimal i ++ 32 ∷ signed_decimal q
 
+-- those of some sample
 abbrev pub AreComponents : List ℕ → Type 0
 AreComponents = SaysPair 32 (SaysSigned 32768 32767) (λ _. IsSigned 32768 32767)
 
@@ -56,6 +58,7 @@ pub record SaysSpike (at : ℕ) (i q : ℤ) (text : List ℕ) : Type 0 where
   pub q_fits : FitsSigned w16 q
   pub is : text ≡ decimal at ++ 32 ∷ (signed_decimal i ++ 32 ∷ signed_decimal q)
 
+-- some of each
 abbrev pub IsSpike : List ℕ → Type 0
 IsSpike = SaysPair 32 (SaysNumber 0 33554432) (λ _. AreComponents)
 
@@ -67,7 +70,7 @@ IsBehind Uniform = AreTwo 32767 (2 ^ 64 - 1)
 IsBehind Spike = IsSpike
 IsBehind Cut = AreTwo 33554432 33554432
 
--- the key of an item, and the words behind it
+-- the key of an item
 abbrev pub key_of : Item → Key
 key_of (item.Lead count) = Lead
 key_of (item.Trail count) = Trail
@@ -75,6 +78,7 @@ key_of (item.Uniform bound seed) = Uniform
 key_of (item.Spike at i q) = Spike
 key_of (item.Cut at count) = Cut
 
+-- the words behind an item's key
 abbrev pub words_behind : Item → List ℕ
 words_behind (item.Lead count) = decimal count
 words_behind (item.Trail count) = decimal count

@@ -1,9 +1,13 @@
 //! What holds of scripts and their texts. Its functions do nothing: what each ensures is the law.
-ghost use Rattle.std.specs.Prelude.{◌≡◌, ◌≤◌, ℕ, List, length, unsigned_abs};
+ghost use Rattle.std.specs.Prelude.{◌≡◌, ◌+◌, ◌≤◌, ℕ, List, [], ◌∷◌, ◌++◌, length, unsigned_abs};
 ghost use Rattle.fixed_complex.specs.Samples.{SamplesWithin};
-ghost use Rattle.noise_script.specs.Noise.{noise_of, noise_samples};
+ghost use Rattle.fixed_complex.specs.declared.Sample.{Sample};
+ghost use Rattle.lane_kernels.specs.Kernels.{held_sums};
+ghost use Rattle.noise_script.specs.Effects.{after_items, silence};
+ghost use Rattle.noise_script.specs.Noise.{generator_of, noise_of, noise_samples};
 ghost use Rattle.noise_script.specs.Scripts.{IsScript, SaysScript};
 ghost use Rattle.noise_script.specs.declared.Item.{Item};
+ghost use Rattle.noise_script.specs.declared.Item.TheVariants.{Lead, Trail, Uniform};
 ghost use Rattle.rand_pcg.specs.Lcg.{Lcg};
 ghost use Rattle.word_grammar.specs.Places.{HasNoPlace, HasOnePlace, IsDecided};
 
@@ -29,4 +33,13 @@ pub fn noise_within_its_bound()
         → SamplesWithin bound (noise_samples bound count words) }
     ensures len { (bound count : ℕ) (words : Lcg)
         → length (noise_samples bound count words) ≡ count }
+{}
+
+/// A frame's script adds its noise to the samples and to the silence in front of them; the silence
+/// behind them has none (own).
+pub fn what_a_frame_script_does()
+    ensures { (lead bound seed trail : ℕ) (samples : List Sample)
+        → after_items (Lead lead ∷ Uniform bound seed ∷ Trail trail ∷ []) samples
+        ≡ held_sums (silence lead ++ samples)
+        (noise_samples bound (lead + length samples) (generator_of seed)) ++ silence trail }
 {}

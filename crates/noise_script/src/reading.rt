@@ -1,7 +1,7 @@
 //! Scripts read from their texts. Each reader answers what the text says, or its bad place.
-ghost use Rattle.std.specs.Prelude.{ℕ, ◌≡◌, ◌-◌, ◌<◌, ◌≤◌, ◌++◌, ◌∷◌, List, drop, length, max, nat_eq, IfOk, IfErr, IfSome, IfNone};
+ghost use Rattle.std.specs.Prelude.{ℕ, ◌≡◌, ◌-◌, ◌<◌, ◌++◌, ◌∷◌, List, drop, length, IfOk, IfErr, IfSome, IfNone};
 ghost use Rattle.std.specs.Bool.{OnFalse, OnTrue};
-ghost use Rattle.noise_script.specs.Items.{IsInRange, IsItem, SaysItem};
+ghost use Rattle.noise_script.specs.Items.{IsItem, SaysItem};
 ghost use Rattle.noise_script.specs.Keys.{AreComponents, AreTwo, IsBehind, IsKey, IsSpike, SaysBehind, SaysComponents, SaysKey, SaysSpike, SaysTwo, key_names};
 ghost use Rattle.noise_script.specs.Scripts.{IsScript, SaysScript};
 ghost use Rattle.noise_script.specs.declared.Item.{Item};
