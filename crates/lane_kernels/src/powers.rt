@@ -8,11 +8,12 @@ ghost use Rattle.fixed_complex.specs.Numbers.{NumbersWithin, number_at};
 use crate::lanes::{add_products, in_phase, quadrature, total};
 use fixed_complex::Sample;
 
-/// The sum of the squares of the sizes of at most 2^24 samples, `i*i + q*q` each (own). One is at most 2^31, so the sum
-/// of 2^24 of them fits.
+/// The sum of the squares of the sizes of at most 2^24 samples, `i*i + q*q` each (own). One is at most 2^31, and the sum
+/// at most 2^56.
 pub fn energy(a: &[Sample]) -> i64
     requires { length a.now ≤ 2 ^ 24 }
-    ensures { result ≡ energy_of a.now }
+    ensures value { result ≡ energy_of a.now }
+    ensures within { unsigned_abs result ≤ 2 ^ 56 }
 {
     let mut energy = total(&lane_powers(a));
     for n in a.len() / 8 * 8..a.len() {

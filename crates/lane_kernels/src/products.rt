@@ -10,11 +10,12 @@ use crate::lanes::{add_products, in_phase, quadrature, subtract_products, total}
 use fixed_complex::{Cx, Sample, add, conj, mul};
 
 /// The sum of the products of `a`'s samples with the conjugates of `b`'s, place by place. The slices are equally long,
-/// at most 2^24 samples (own). A part of a product is at most 2^31 in size, so the sum of 2^24 of them fits.
+/// at most 2^24 samples (own). A part of a product is at most 2^31 in size, and a part of the sum at most 2^56.
 pub fn dot(a: &[Sample], b: &[Sample]) -> Cx
     requires short { length a.now ≤ 2 ^ 24 }
     requires long { length a.now ≡ length b.now }
-    ensures { result ≡ dot_of a.now b.now }
+    ensures value { result ≡ dot_of a.now b.now }
+    ensures within { IsWithin (2 ^ 56) result }
 {
     let mut dot = Cx {
         re: total(&lane_real_parts(a, b)),

@@ -12,8 +12,8 @@ loop-n-preserved c =
     let one = total-one powers c.loop-n.n (c.loop-n.n + 1) refl in
     record { so_far = omega (arith, ints); within = omega (arith, ints) }
 
-pub returns : goal.returns
-returns c =
+pub returns-clause-value : goal.returns-clause-value
+returns-clause-value c =
     let whole : c.loop-n.n ≡ length c.args.a.now = omega arith in
     let total = rw whole at c.loop-n.invariant.so_far in
     total ∙ sym (energy-total c.args.a.now)

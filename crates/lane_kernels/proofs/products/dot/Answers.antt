@@ -40,8 +40,8 @@ loop-n-preserved c =
       within = record { re = omega (arith, ints); im = omega (arith, ints) };
     }
 
-pub returns : goal.returns
-returns c =
+pub returns-clause-value : goal.returns-clause-value
+returns-clause-value c =
     let whole : c.loop-n.n ≡ length c.args.a.now = omega arith in
     let re = rw whole at c.loop-n.invariant.re in
     let im = rw whole at c.loop-n.invariant.im in
