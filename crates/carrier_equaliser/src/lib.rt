@@ -1,4 +1,4 @@
-//! The carriers of 64 received samples (own). No call takes memory.
+//! The carriers of 64 received samples, and the estimate of a channel (own). No call takes memory.
 #![tactic(auto)]
 
 ghost use Rattle.std.specs.Prelude.{◌≡◌, ℕ, ◌^◌, ◌<◌, pos};
@@ -13,7 +13,10 @@ use butterfly64::down;
 use fixed_complex::{Cx, Sample};
 use modem_ports::Steps;
 
+mod channel;
 pub mod laws;
+
+pub use channel::Estimate;
 
 const ZERO: Cx = Cx { re: 0, im: 0 };
 

@@ -25,12 +25,19 @@ fn is_quiet_before(capture: &[Sample], place: usize) -> bool
     requires { place < length capture.now }
     ensures { IsTrue result ↔ IsQuietBefore capture.now place }
 {
-    for before in place.saturating_sub(16)..place {
+    for before in run_start(place)..place {
         if is_loud(capture[before]) {
             return false;
         }
     }
     true
+}
+
+// The first of the 16 places before one, or of those that exist.
+fn run_start(place: usize) -> usize
+    ensures { result ≡ place - 16 }
+{
+    place.saturating_sub(16)
 }
 
 // Whether a sample is loud.

@@ -1,0 +1,100 @@
+//! The estimate of a channel.
+ghost use Rattle.std.specs.Prelude.{◌≡◌, ◌^◌, ◌<◌, ◌≤◌, ◌*ℤ◌, replicate, unsigned_abs};
+ghost use Rattle.fixed_complex.specs.Pairs.{IsWithin, multiple, plus, zero_pair};
+ghost use Rattle.fixed_complex.specs.PairLists.{PairsWithin, entry};
+ghost use Rattle.carrier_bins.specs.Bins.{carrier_in};
+ghost use Rattle.training_fields.specs.Training.{long_sign_of};
+ghost use Rattle.carrier_equaliser.specs.Estimates.{estimate_at, estimate_of};
+
+use crate::ZERO;
+use carrier_bins::carrier_in;
+use fixed_complex::{Cx, add};
+use std::marker::Model;
+use training_fields::long_sign;
+
+/// What a channel does to the carriers: 64 pairs by bin, each component at most 2^23 in size (own).
+#[derive(Debug, Drop)]
+pub struct Estimate {
+    bins: [Cx; 64],
+}
+
+impl Model for Estimate {
+    ghost use Rattle.std.specs.Prelude.{List, ◌^◌};
+    ghost use Rattle.fixed_complex.specs.declared.Cx.{Cx};
+    ghost use Rattle.fixed_complex.specs.PairLists.{PairsWithin};
+
+    ghost Value = { List Cx };
+
+    ghost view = { λ estimate. estimate.bins };
+
+    ghost invariant = { λ estimate. PairsWithin (2 ^ 23) estimate.bins };
+}
+
+impl Estimate {
+    /// The estimate from the carriers of both bodies of the long training field: in each bin their sum times L, so
+    /// (0, 0) where L has no entry (own). Components are at most 2^22 in size. Takes no memory.
+    pub fn from_long(first: &[Cx; 64], second: &[Cx; 64]) -> Estimate
+        requires first { PairsWithin (2 ^ 22) first.now }
+        requires second { PairsWithin (2 ^ 22) second.now }
+        ensures { result ≡ estimate_of first.now second.now }
+    {
+        let mut bins = [ZERO; 64];
+        for bin in 0..64 {
+            bins[bin] = estimated(first, second, bin);
+        }
+        Estimate { bins }
+    }
+
+    /// The estimate of a channel that gives nothing (own). Takes no memory.
+    pub fn silent() -> Estimate
+        ensures { result ≡ replicate 64 zero_pair }
+    {
+        Estimate { bins: [ZERO; 64] }
+    }
+}
+
+// The estimate in a bin.
+fn estimated(first: &[Cx; 64], second: &[Cx; 64], bin: usize) -> Cx
+    requires first { PairsWithin (2 ^ 22) first.now }
+    requires second { PairsWithin (2 ^ 22) second.now }
+    requires bin { bin < 64 }
+    ensures value { result ≡ estimate_at first.now second.now bin }
+    ensures within { IsWithin (2 ^ 23) result }
+{
+    let (first, second) = (first[bin], second[bin]);
+    signed_sum(sign_in(bin), first, second)
+}
+
+// The sign L of a bin's carrier.
+fn sign_in(bin: usize) -> i64
+    requires { bin < 64 }
+    ensures sign { result ≡ long_sign_of (carrier_in bin) }
+    ensures within { unsigned_abs result ≤ 1 }
+{
+    long_sign(carrier_in(bin))
+}
+
+// The sum of two pairs times a sign.
+fn signed_sum(sign: i64, first: Cx, second: Cx) -> Cx
+    requires sign { unsigned_abs sign ≤ 1 }
+    requires first { IsWithin (2 ^ 22) first }
+    requires second { IsWithin (2 ^ 22) second }
+    ensures value { result ≡ multiple sign (plus first second) }
+    ensures within { IsWithin (2 ^ 23) result }
+{
+    let sum = add(first, second);
+    Cx {
+        re: signed(sign, sum.re),
+        im: signed(sign, sum.im),
+    }
+}
+
+// A number times a sign.
+fn signed(sign: i64, part: i64) -> i64
+    requires sign { unsigned_abs sign ≤ 1 }
+    requires part { unsigned_abs part ≤ 2 ^ 23 }
+    ensures value { result ≡ sign *ℤ part }
+    ensures within { unsigned_abs result ≤ 2 ^ 23 }
+{
+    sign * part
+}
