@@ -1,1 +1,2 @@
 pub mod ComingBack
+pub mod Places

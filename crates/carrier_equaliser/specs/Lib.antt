@@ -1,3 +1,4 @@
 pub mod Received
 pub mod Nearness
 pub mod Estimates
+pub mod Decided

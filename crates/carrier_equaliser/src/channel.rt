@@ -1,5 +1,8 @@
 //! The estimate of a channel.
-ghost use Rattle.std.specs.Prelude.{◌≡◌, ◌^◌, ◌<◌, ◌≤◌, ◌*ℤ◌, replicate, unsigned_abs};
+ghost use Rattle.std.specs.Prelude.{◌≡◌, ℕ, slice_index, take, ◌^◌, ◌<◌, ◌≤◌, ◌*ℤ◌, replicate, unsigned_abs};
+ghost use Rattle.bit_lists.specs.Bits.{AreBits};
+ghost use Rattle.rate_table.specs.Table.{row_of};
+ghost use Rattle.carrier_equaliser.specs.Decided.{interleaved_decisions};
 ghost use Rattle.fixed_complex.specs.Pairs.{IsWithin, multiple, plus, zero_pair};
 ghost use Rattle.fixed_complex.specs.PairLists.{PairsWithin, entry};
 ghost use Rattle.carrier_bins.specs.Bins.{carrier_in};
@@ -7,8 +10,10 @@ ghost use Rattle.training_fields.specs.Training.{long_sign_of};
 ghost use Rattle.carrier_equaliser.specs.Estimates.{estimate_at, estimate_of};
 
 use crate::ZERO;
+use crate::decisions::decide_all;
 use carrier_bins::carrier_in;
 use fixed_complex::{Cx, add};
+use rate_table::Rate;
 use std::marker::Model;
 use training_fields::long_sign;
 
@@ -43,6 +48,19 @@ impl Estimate {
             bins[bin] = estimated(first, second, bin);
         }
         Estimate { bins }
+    }
+
+    /// The decisions of a symbol, in interleaved order, and 0 in the entries past N_CBPS: for each data number those of
+    /// what was received on its carrier times the conjugate of the channel, against the square of the channel's size
+    /// (own). Components of `symbol` are at most 2^22 in size. Takes no memory.
+    pub fn decisions(&self, rate: Rate, symbol: &[Cx; 64], out: &mut [u8; 288])
+        requires { PairsWithin (2 ^ 22) symbol.now }
+        ensures list { take (row_of rate).coded_bits out.new
+            ≡ interleaved_decisions rate self.now symbol.now }
+        ensures others { (k : ℕ) → (row_of rate).coded_bits ≤ k → slice_index out.new k ≡ 0 }
+        ensures bits { AreBits out.new }
+    {
+        decide_all(rate, &self.bins, symbol, out);
     }
 
     /// The estimate of a channel that gives nothing (own). Takes no memory.

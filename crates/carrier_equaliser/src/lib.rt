@@ -14,6 +14,7 @@ use fixed_complex::{Cx, Sample};
 use modem_ports::Steps;
 
 mod channel;
+mod decisions;
 pub mod laws;
 
 pub use channel::Estimate;

@@ -1,6 +1,8 @@
-use crate::carriers_of;
+use crate::{Estimate, carriers_of};
 use fixed_complex::{Cx, Sample};
 use modem_ports::Steps;
+use rate_table::Rate;
+use training_fields::preamble;
 
 const ZERO: Cx = Cx { re: 0, im: 0 };
 
@@ -134,5 +136,27 @@ fn carriers_of_spread_samples(rt: HostRuntime) {
     for (bin, carrier) in CARRIERS {
         assert!(rt; bin < 64);
         assert_eq!(rt; carriers[bin], carrier);
+    }
+}
+
+// The signs L of the long training field on the 48 data carriers, from the lowest on.
+const LONG_SIGNS: [u8; 48] = *b"++--+-+-++++++--+++-+++++--++--+-----++--+--++++";
+
+// The long training field's own body over its own channel: in BPSK each decision is the carrier's sign.
+#[test]
+fn decisions_of_the_long_training_field(rt: HostRuntime) {
+    let preamble = preamble();
+    let mut body = [SILENCE; 64];
+    for n in 0..64 {
+        body[n] = preamble[192 + n];
+    }
+    let carriers = carriers_of(&body, &mut Steps::new());
+    let mut decisions = [7; 288];
+    Estimate::from_long(&carriers, &carriers).decisions(Rate::R6, &carriers, &mut decisions);
+    for k in 0..48 {
+        assert_eq!(rt; decisions[k] == 1, LONG_SIGNS[k] == b'+');
+    }
+    for k in 48..288 {
+        assert_eq!(rt; decisions[k], 0);
     }
 }

@@ -1,0 +1,6 @@
+use Rattle.carrier_equaliser.specs.Decided.{decided_at}
+use Rattle.carrier_equaliser.proofs.decisions.decided_number.Goals as goal
+
+pub returns-clause-value : goal.returns-clause-value
+unfolding decided_at
+returns-clause-value c = rw c.bin_of_number-bin.ensures.bin at c.decided.ensures.value

@@ -1,0 +1,111 @@
+//! The decisions of a data number over the estimate of a channel.
+ghost use Rattle.std.specs.Prelude.{◌≡◌, ℕ, ◌+◌, slice_index, take, ◌^◌, ◌<◌, ◌≤◌, ◌≤ℤ◌, ◌*ℤ◌, pos, unsigned_abs};
+ghost use Rattle.bit_lists.specs.Bits.{AreBits};
+ghost use Rattle.fixed_complex.specs.PairLists.{PairsWithin};
+ghost use Rattle.rate_table.specs.Table.{row_of};
+ghost use Rattle.fixed_complex.specs.Pairs.{IsWithin, conjugate, times};
+ghost use Rattle.carrier_bins.specs.Carriers.{bin_of, data_carrier_of};
+ghost use Rattle.carrier_equaliser.specs.Decided.{decided_at, decided_over, interleaved_decisions, square_of_size};
+
+use constellations::{bin, data_carrier, decide};
+use fixed_complex::{Cx, conj, mul};
+use rate_table::Rate;
+
+// The decisions of a symbol over a channel, interleaved, and zeros behind them.
+pub(crate) fn decide_all(rate: Rate, bins: &[Cx; 64], symbol: &[Cx; 64], out: &mut [u8; 288])
+    requires bins { PairsWithin (2 ^ 23) bins.now }
+    requires symbol { PairsWithin (2 ^ 22) symbol.now }
+    ensures list { take (row_of rate).coded_bits out.new
+        ≡ interleaved_decisions rate bins.now symbol.now }
+    ensures others { (k : ℕ) → (row_of rate).coded_bits ≤ k → slice_index out.new k ≡ 0 }
+    ensures bits { AreBits out.new }
+{
+    let width = rate.bits_per_carrier();
+    *out = [0; 288];
+    for number in 0..48 {
+        let bits = decided_number(rate, bins, symbol, number);
+        put(out, number * width, bits, width);
+    }
+}
+
+// The bits of a data number, put at a place.
+fn put(out: &mut [u8; 288], at: usize, bits: [u8; 6], width: usize)
+    requires width { width ≤ 6 }
+    requires room { at + width ≤ 288 }
+    requires bits { AreBits bits }
+    requires out { AreBits out.old }
+    ensures here { (j : ℕ) → j < width → slice_index out.new (at + j) ≡ slice_index bits j }
+    ensures before { (k : ℕ) → k < at → slice_index out.new k ≡ slice_index out.old k }
+    ensures behind { (k : ℕ) → at + width ≤ k → slice_index out.new k ≡ slice_index out.old k }
+    ensures bits { AreBits out.new }
+{
+    for j in 0..width {
+        out[at + j] = bits[j];
+    }
+}
+
+// The bits decided of a data number, with zeros behind them.
+fn decided_number(rate: Rate, bins: &[Cx; 64], symbol: &[Cx; 64], number: usize) -> [u8; 6]
+    requires bins { PairsWithin (2 ^ 23) bins.now }
+    requires symbol { PairsWithin (2 ^ 22) symbol.now }
+    requires number { number < 48 }
+    ensures value { result ≡ decided_at rate bins.now symbol.now number }
+    ensures bits { AreBits result }
+{
+    let bin = bin_of_number(number);
+    decided(rate, bins[bin], symbol[bin])
+}
+
+// The bits decided of a received carrier and the channel there, with zeros behind them.
+fn decided(rate: Rate, channel: Cx, carrier: Cx) -> [u8; 6]
+    requires channel { IsWithin (2 ^ 23) channel }
+    requires carrier { IsWithin (2 ^ 22) carrier }
+    ensures value { result ≡ decided_over rate channel carrier }
+    ensures bits { AreBits result }
+{
+    decide(
+        rate.modulation(),
+        turned_back(carrier, channel),
+        size_squared(channel),
+    )
+}
+
+// A received carrier times the conjugate of the channel there.
+fn turned_back(carrier: Cx, channel: Cx) -> Cx
+    requires carrier { IsWithin (2 ^ 22) carrier }
+    requires channel { IsWithin (2 ^ 23) channel }
+    ensures value { result ≡ times carrier (conjugate channel) }
+    ensures within { IsWithin (2 ^ 46) result }
+{
+    mul(carrier, conj(channel))
+}
+
+// The square of a pair's size.
+fn size_squared(z: Cx) -> i64
+    requires { IsWithin (2 ^ 23) z }
+    ensures value { result ≡ square_of_size z }
+    ensures least { pos 0 ≤ℤ result }
+    ensures most { result ≤ℤ pos (2 ^ 47) }
+{
+    square(z.re) + square(z.im)
+}
+
+// The square of a number.
+fn square(part: i64) -> i64
+    requires { unsigned_abs part ≤ 2 ^ 23 }
+    ensures value { result ≡ part *ℤ part }
+    ensures least { pos 0 ≤ℤ result }
+    ensures most { result ≤ℤ pos (2 ^ 46) }
+{
+    part * part
+}
+
+// The bin of a data number.
+fn bin_of_number(number: usize) -> usize
+    requires { number < 48 }
+    ensures bin { result ≡ bin_of (data_carrier_of number) }
+    ensures within { result < 64 }
+{
+    constellations::laws::carriers_of_data();
+    bin(data_carrier(number))
+}
