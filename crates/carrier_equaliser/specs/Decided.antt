@@ -1,6 +1,7 @@
 -- The decisions of a symbol over the estimate of a channel (own).
-use Rattle.std.specs.Prelude.{ℕ, ◌/◌, ◌%◌, List, map, slice_index, ℤ, ◌+ℤ◌, ◌*ℤ◌}
+use Rattle.std.specs.Prelude.{ℕ, ◌/◌, ◌%◌, List, map, slice_index}
 use Rattle.std.specs.List.{range_with_len}
+use Rattle.integer_laws.specs.Size.{sum_of_squares}
 use Rattle.fixed_complex.specs.declared.Cx.{Cx}
 use Rattle.fixed_complex.specs.PairLists.{entry}
 use Rattle.fixed_complex.specs.Pairs.{conjugate, times}
@@ -9,14 +10,10 @@ use Rattle.rate_table.specs.Table.{row_of}
 use Rattle.carrier_bins.specs.Carriers.{bin_of, data_carrier_of}
 use Rattle.constellations.specs.Decisions.{decided}
 
--- the square of a pair's size
-abbrev pub square_of_size : Cx → ℤ
-square_of_size z = z.re *ℤ z.re +ℤ z.im *ℤ z.im
-
 -- the bits decided of a received carrier and the channel there, with zeros behind them up to six entries
 abbrev pub decided_over : Rate → Cx → Cx → List ℕ
 decided_over rate channel carrier =
-    decided (row_of rate).modulation (times carrier (conjugate channel)) (square_of_size channel)
+    decided (row_of rate).modulation (times carrier (conjugate channel)) (sum_of_squares channel.re channel.im)
 
 -- the bits decided of a data number
 unfoldable pub decided_at : Rate → List Cx → List Cx → ℕ → List ℕ

@@ -5,7 +5,8 @@ ghost use Rattle.fixed_complex.specs.PairLists.{PairsWithin};
 ghost use Rattle.rate_table.specs.Table.{row_of};
 ghost use Rattle.fixed_complex.specs.Pairs.{IsWithin, conjugate, times};
 ghost use Rattle.carrier_bins.specs.Carriers.{bin_of, data_carrier_of};
-ghost use Rattle.carrier_equaliser.specs.Decided.{decided_at, decided_over, interleaved_decisions, square_of_size};
+ghost use Rattle.carrier_equaliser.specs.Decided.{decided_at, decided_over, interleaved_decisions};
+ghost use Rattle.integer_laws.specs.Size.{sum_of_squares};
 
 use constellations::{bin, data_carrier, decide};
 use fixed_complex::{Cx, conj, mul};
@@ -83,7 +84,7 @@ fn turned_back(carrier: Cx, channel: Cx) -> Cx
 // The square of a pair's size.
 fn size_squared(z: Cx) -> i64
     requires { IsWithin (2 ^ 23) z }
-    ensures value { result ≡ square_of_size z }
+    ensures value { result ≡ sum_of_squares z.re z.im }
     ensures least { pos 0 ≤ℤ result }
     ensures most { result ≤ℤ pos (2 ^ 47) }
 {

@@ -2,7 +2,8 @@
 ghost use Rattle.std.specs.Prelude.{◌≡◌, ◌+◌, ◌^◌, ◌≤◌, length, ℤ, pos, ◌≤ℤ◌, ◌*ℤ◌, unsigned_abs};
 ghost use Rattle.fixed_complex.specs.Pairs.{IsWithin};
 ghost use Rattle.modem_ports.specs.Counts.{raised_by};
-ghost use Rattle.frame_search.specs.Match.{matches, part, size_squared};
+ghost use Rattle.frame_search.specs.Match.{matches, part};
+ghost use Rattle.integer_laws.specs.Size.{sum_of_squares};
 
 use crate::counting::tick_times;
 use crate::template::{template, template_energy};
@@ -35,7 +36,7 @@ fn is_match(samples: &[Sample]) -> bool
 // The square of a pair's size.
 fn size_squared(z: Cx) -> i128
     requires { IsWithin (2 ^ 56) z }
-    ensures value { result ≡ size_squared z }
+    ensures value { result ≡ sum_of_squares z.re z.im }
     ensures within { unsigned_abs result ≤ 2 ^ 113 }
 {
     product(z.re, z.re) + product(z.im, z.im)
