@@ -10,7 +10,7 @@ use Rattle.std.proofs.Math.Facts.{Fits-of_z}
 use Rattle.std.proofs.Math.Seq.{take-add}
 use Rattle.byteorder.specs.Endian.{little_number}
 use Rattle.fixed_complex.specs.declared.Sample.{Sample}
-use Rattle.capture_files.specs.Captures.{bytes_of_component, bytes_of_sample, bytes_of_samples}
+use Rattle.capture_files.specs.Captures.{bytes_of_component, bytes_of_sample, bytes_of_samples, component_in, samples_in}
 use Rattle.fixed_complex.specs.Samples.{AreSamples, IsSample}
 use borrow.Rule.Slice.PartMut.{post_of, put_mid}
 use Rattle.fixed_complex.proofs.Samples.{same_sample}
@@ -88,6 +88,25 @@ samples_alike (x ∷ a) (y ∷ b) p q e =
     let rest : a ≡ b = samples_alike a b (All-tail IsSample x a p) (All-tail IsSample y b q) (ap (λ (l : List ℕ). drop 4 l) e) in
     let same : x ≡ y = same_sample x y i q' in
     rw (rest, same) refl
+
+-- a component is that of its bytes
+component_back : (x : ℤ) → FitsSigned w16 x → component_in (byte_at 0 (cast_unsigned w16 x)) (byte_at 1 (cast_unsigned w16 x)) ≡ x
+unfolding component_in
+component_back x p =
+    let fits : Fits w16 (cast_unsigned w16 x) = Fits-of_z p in
+    let n = cast_unsigned w16 x in
+    let same : byte_at 0 n + 256 * byte_at 1 n ≡ n = omega (arith, fits) in
+    ap (cast_signed w16) same ∙ to_z-of_z w16 x p
+
+-- samples are those of their bytes
+pub samples_back : (samples : List Sample) → AreSamples samples → samples_in (bytes_of_samples samples) ≡ samples
+unfolding samples_in bytes_of_sample bytes_of_component
+samples_back [] p = refl
+samples_back (x ∷ samples) p =
+    let is : IsSample x = All-head IsSample x samples p in
+    let first : Sample = record { i = component_in (byte_at 0 (cast_unsigned w16 x.i)) (byte_at 1 (cast_unsigned w16 x.i)); q = component_in (byte_at 0 (cast_unsigned w16 x.q)) (byte_at 1 (cast_unsigned w16 x.q)) } in
+    let same : first ≡ x = same_sample first x (component_back x.i is.i) (component_back x.q is.q) in
+    ap (λ (s : Sample). s ∷ samples_in (bytes_of_samples samples)) same ∙ ap (λ (s : List Sample). x ∷ s) (samples_back samples (All-tail IsSample x samples p))
 
 -- one sample more is read
 pub samples_more : (samples : List Sample) (sample : Sample) (bytes : List ℕ) (k : ℕ) → bytes_of_samples samples ≡ take (4 * k) bytes → bytes_of_sample sample ≡ take (4 * k + 4 - 4 * k) (drop (4 * k) bytes) → bytes_of_samples (samples ++ sample ∷ []) ≡ take (4 * (k + 1)) bytes

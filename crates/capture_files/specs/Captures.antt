@@ -1,6 +1,6 @@
 -- Captures: samples as bytes (own).
-use Rattle.std.specs.Prelude.{ℕ, ◌%◌, ◌≢◌, List, ◌++◌, ℤ}
-use Rattle.std.specs.Int.{w16, bytes_low_first, cast_unsigned}
+use Rattle.std.specs.Prelude.{ℕ, ◌+◌, ◌*◌, ◌%◌, ◌≢◌, List, [], ◌∷◌, ◌++◌, ℤ}
+use Rattle.std.specs.Int.{w16, bytes_low_first, cast_signed, cast_unsigned}
 use Rattle.std.specs.List.{flat_map}
 use Rattle.fixed_complex.specs.declared.Sample.{Sample}
 
@@ -15,6 +15,16 @@ bytes_of_sample sample = bytes_of_component sample.i ++ bytes_of_component sampl
 -- the bytes of samples: four a sample, in order
 abbrev pub bytes_of_samples : List Sample → List ℕ
 bytes_of_samples samples = flat_map bytes_of_sample samples
+
+-- the component that two bytes are
+unfoldable pub component_in : ℕ → ℕ → ℤ
+component_in low high = cast_signed w16 (low + 256 * high)
+
+-- the samples that bytes are, as far as they are whole samples
+unfoldable pub samples_in : List ℕ → List Sample
+samples_in (a ∷ b ∷ c ∷ d ∷ bytes) =
+    record { i = component_in a b; q = component_in c d } ∷ samples_in bytes
+samples_in bytes = []
 
 -- a capture that ends after so many bytes is torn: they aren't whole samples
 abbrev pub IsTorn : ℕ → Type 0

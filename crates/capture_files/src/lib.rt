@@ -5,7 +5,7 @@ ghost use Rattle.std.specs.Prelude.{◌≡◌, ◌+◌, ◌%◌, ◌*◌, ◌≤
 ghost use Rattle.modem_ports.specs.Counts.{Rose};
 ghost use Rattle.modem_ports.specs.Limits.{most_input};
 ghost use Rattle.modem_ports.specs.Told.{Gives, GivesAtMost, GivesExactly, IsAtEnd, Takes, TakesPrefix};
-ghost use Rattle.capture_files.specs.Captures.{IsTorn, bytes_of_sample, bytes_of_samples};
+ghost use Rattle.capture_files.specs.Captures.{IsTorn, bytes_of_sample, bytes_of_samples, samples_in};
 ghost use Rattle.fixed_complex.specs.Samples.{AreSamples, IsSample};
 ghost use Rattle.capture_files.specs.Faults.{fault_of};
 ghost use Rattle.capture_files.specs.declared.CaptureFault.TheVariants.{NoMemory};
@@ -104,9 +104,11 @@ pub fn read_capture<S: Source>(alloc: Global, source: &mut S) -> Result<Vec<Samp
     Ok(samples_of(alloc, &bytes)?)
 }
 
-// The samples of whole samples' bytes.
-fn samples_of(alloc: Global, bytes: &[u8]) -> Result<Vec<Sample>, AllocError>
+/// The samples that bytes are: four a sample, I and then Q, signed numbers of 16 bits, the low byte first (own). 4
+/// divides the number of bytes. The only error is want of memory.
+pub fn samples_of(alloc: Global, bytes: &[u8]) -> Result<Vec<Sample>, AllocError>
     requires { length bytes.now % 4 ≡ 0 }
+    ensures read { IfOk result (λ samples. samples.items ≡ samples_in bytes.now) }
     ensures bytes { IfOk result (λ samples. bytes_of_samples samples.items ≡ bytes.now) }
     ensures samples { IfOk result (λ samples. AreSamples samples.items) }
     ensures count { IfOk result (λ samples. 4 * length samples.items ≡ length bytes.now) }

@@ -1,6 +1,8 @@
 -- What a command writes, before it is bytes (own).
 use Rattle.std.specs.Prelude.{ℕ, List}
-use Rattle.capture_files.specs.Captures.{bytes_of_samples}
+use Rattle.capture_files.specs.Captures.{bytes_of_samples, samples_in}
+use Rattle.noise_script.specs.Effects.{after_items}
+use Rattle.noise_script.specs.declared.Item.{Item}
 use Rattle.command_answers.specs.declared.answers.Answer.{Answer}
 use Rattle.command_answers.specs.declared.answers.Answer.TheVariants.{Bytes, Samples}
 
@@ -8,3 +10,7 @@ use Rattle.command_answers.specs.declared.answers.Answer.TheVariants.{Bytes, Sam
 abbrev pub bytes_of_answer : Answer → List ℕ
 bytes_of_answer (Bytes bytes) = bytes.items
 bytes_of_answer (Samples samples) = bytes_of_samples samples.items
+
+-- what `noise` writes: the bytes of a capture's samples after the items of a script
+abbrev pub noisy_bytes : List Item → List ℕ → List ℕ
+noisy_bytes items capture = bytes_of_samples (after_items items (samples_in capture))

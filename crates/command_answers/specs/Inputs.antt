@@ -1,5 +1,6 @@
 -- What a command reads, and what of the input alone is refused (own).
-use Rattle.std.specs.Prelude.{ℕ, ◌+◌, ◌≡◌, ◌<◌, ◌≤◌, ◌⊎◌, List, [], length, Option, Some, None}
+use Rattle.std.specs.Prelude.{ℕ, ◌+◌, ◌%◌, ◌≡◌, ◌<◌, ◌≤◌, ◌⊎◌, List, [], length, Option, Some, None}
+use Rattle.capture_files.specs.Captures.{IsTorn}
 use Rattle.modem_ports.specs.Counts.{Rose}
 use Rattle.modem_ports.specs.Limits.{most_input}
 use Rattle.modem_ports.specs.declared.whole.ReadAllFault.{ReadAllFault}
@@ -7,12 +8,12 @@ use Rattle.modem_ports.specs.declared.whole.ReadAllFault.TheVariants as fault
 use Rattle.modem_ports.specs.Told.{GivesAtMost, GivesExactly, IsAtEnd}
 use Rattle.rate_table.specs.Symbols.{IsLength, most_octets}
 use Rattle.report_lines.specs.declared.Refusal.{Refusal}
-use Rattle.report_lines.specs.declared.Refusal.TheVariants.{EmptyPsdu, LongPsdu, LongCapture, NoMemory, ReadFault}
+use Rattle.report_lines.specs.declared.Refusal.TheVariants.{EmptyPsdu, LongPsdu, TornCapture, LongCapture, NoMemory, ReadFault}
 use Rattle.report_lines.specs.Refusals.{answering, step_of, writing}
 use Rattle.command_words.specs.declared.Command.{Command}
-use Rattle.command_words.specs.declared.Command.TheVariants.{Bits, Decode, Send, Show}
+use Rattle.command_words.specs.declared.Command.TheVariants.{Bits, Decode, Send, Noise, Show}
 use Rattle.command_answers.specs.declared.reading.Reading.{Reading}
-use Rattle.command_answers.specs.declared.reading.Reading.TheVariants.{Nothing, Psdu, Bytes}
+use Rattle.command_answers.specs.declared.reading.Reading.TheVariants.{Nothing, Psdu, Bytes, Capture}
 use Rattle.command_answers.specs.InOrder.{Outcome, Refuses, Unless}
 
 -- what a command reads
@@ -20,6 +21,7 @@ abbrev pub reads : Command → Reading
 reads (Bits rate seed) = Psdu
 reads (Decode rate octets) = Bytes
 reads (Send rate seed) = Psdu
+reads (Noise items) = Capture
 reads (Show stage rate seed) = Psdu
 
 -- the most bytes of input that are accepted
@@ -27,30 +29,35 @@ abbrev pub accepted : Reading → ℕ
 accepted Nothing = 0
 accepted Psdu = most_octets
 accepted Bytes = most_input
+accepted Capture = most_input
 
 -- the most bytes that are taken: the last one of these is refused
 abbrev pub taken : Reading → ℕ
 taken Nothing = 0
 taken Psdu = most_octets + 1
 taken Bytes = most_input + 1
+taken Capture = most_input + 1
 
 -- the input is read to its end
 abbrev pub ReadsToEnd : Reading → Type 0
 ReadsToEnd Nothing = ⊥
 ReadsToEnd Psdu = Unit {0}
 ReadsToEnd Bytes = Unit {0}
+ReadsToEnd Capture = Unit {0}
 
 -- what is read of an input
 abbrev pub IsInput : Reading → List ℕ → List ℕ → Type 0
 IsInput Nothing read bytes = read ≡ []
 IsInput Psdu read bytes = read ≡ bytes
 IsInput Bytes read bytes = read ≡ bytes
+IsInput Capture read bytes = read ≡ bytes
 
 -- what is read is accepted
 abbrev pub IsAccepted : Reading → List ℕ → Type 0
 IsAccepted Nothing read = Unit {0}
 IsAccepted Psdu read = IsLength (length read)
 IsAccepted Bytes read = length read ≤ most_input
+IsAccepted Capture read = (length read ≤ most_input) × (length read % 4 ≡ 0)
 
 -- the outcome of an input, in the order of its refusals; Rest is that of what is read
 abbrev pub OfInput : Reading → (List ℕ → Outcome → Type 0) → List ℕ → Outcome → Type 0
@@ -58,6 +65,9 @@ OfInput Nothing Rest bytes = Rest []
 OfInput Psdu Rest bytes =
     Unless (length bytes ≡ 0) EmptyPsdu (Unless (most_octets < length bytes) LongPsdu (Rest bytes))
 OfInput Bytes Rest bytes = Unless (most_input < length bytes) LongCapture (Rest bytes)
+OfInput Capture Rest bytes =
+    Unless (most_input < length bytes) LongCapture
+    (Unless (IsTorn (length bytes)) (TornCapture (length bytes)) (Rest bytes))
 
 -- an input is refused, whatever is made of what is read
 abbrev pub RefusesInput : Reading → Refusal → List ℕ → Type 0

@@ -2,15 +2,15 @@
 use Rattle.std.specs.Prelude.{ℕ, ◌≡◌, ◌⊎◌, List, Option, IfSome}
 use Rattle.modem_links.specs.Frames.{sent_bytes}
 use Rattle.report_lines.specs.declared.Refusal.{Refusal}
-use Rattle.report_lines.specs.declared.Refusal.TheVariants.{Words}
 use Rattle.report_lines.specs.declared.Status.{Status}
 use Rattle.report_lines.specs.declared.Status.TheVariants as status
 use Rattle.report_lines.specs.Refusals.{status_of}
 use Rattle.command_words.specs.declared.Command.{Command}
-use Rattle.command_words.specs.declared.Command.TheVariants.{Bits, Decode, Send, Show}
+use Rattle.command_words.specs.declared.Command.TheVariants.{Bits, Decode, Send, Noise, Show}
 use Rattle.command_words.specs.declared.Stage.TheVariants.{Kept}
-use Rattle.command_words.specs.Grammar.{Say, SayNothing}
+use Rattle.command_words.specs.Grammar.{AreRefusedFor, Say, SayNothing}
 use Rattle.frame_stages.specs.Stages.{stage_text_of}
+use Rattle.command_answers.specs.Answers.{noisy_bytes}
 use Rattle.command_answers.specs.Decoding.{DecodeOutcome}
 use Rattle.command_answers.specs.InOrder.{Outcome, Refuses, Writes}
 use Rattle.command_answers.specs.Inputs.{OfInput, ReadsToEnd, accepted, reads, taken}
@@ -20,18 +20,20 @@ abbrev pub AnswerOf : Command → List ℕ → Outcome → Type 0
 AnswerOf (Bits rate seed) read outcome = outcome ≡ Writes (stage_text_of Kept rate seed read)
 AnswerOf (Decode rate octets) read outcome = DecodeOutcome rate octets read outcome
 AnswerOf (Send rate seed) read outcome = outcome ≡ Writes (sent_bytes rate seed read)
+AnswerOf (Noise items) read outcome = outcome ≡ Writes (noisy_bytes items read)
 AnswerOf (Show stage rate seed) read outcome = outcome ≡ Writes (stage_text_of stage rate seed read)
 
 -- the outcome of a command and the bytes of the input
 abbrev pub CommandOutcome : Command → List ℕ → Outcome → Type 0
 CommandOutcome command bytes outcome = OfInput (reads command) (AnswerOf command) bytes outcome
 
--- words and the bytes of the input have an outcome: that of the command which the words say, or
--- `Words`
+-- words and the bytes of the input have an outcome: that of the command which the words say, or what
+-- the words are refused for
 pub data HasOutcome (words : List (List ℕ)) (bytes : List ℕ) (outcome : Outcome) : Type 0 where
   of_command : (command : Command) → Say words command → CommandOutcome command bytes outcome
       → HasOutcome words bytes outcome
-  of_no_command : SayNothing words → outcome ≡ Refuses Words → HasOutcome words bytes outcome
+  of_no_command : SayNothing words → (refusal : Refusal) → AreRefusedFor words refusal
+      → outcome ≡ Refuses refusal → HasOutcome words bytes outcome
 
 -- the same of the bytes that a source tells
 abbrev pub IsOutcome : List (List ℕ) → Option (List ℕ) → Outcome → Type 0

@@ -1,23 +1,27 @@
 //! What a command writes.
-ghost use Rattle.std.specs.Prelude.{◌≡◌, ◌⊎◌, ◌≤◌, IfOk, IfErr, OnOk, OnErr};
+ghost use Rattle.std.specs.Prelude.{◌≡◌, ◌⊎◌, ◌%◌, ◌≤◌, length, IfOk, IfErr, OnOk, OnErr};
+ghost use Rattle.capture_files.specs.Captures.{samples_in};
 ghost use Rattle.command_answers.specs.Answers.{bytes_of_answer};
 ghost use Rattle.command_answers.specs.InOrder.{Refuses, Writes};
 ghost use Rattle.command_answers.specs.Inputs.{IsAccepted, reads};
 ghost use Rattle.command_answers.specs.Outcome.{AnswerOf};
 ghost use Rattle.command_words.specs.Grammar.{IsInRange};
 ghost use Rattle.modem_ports.specs.Counts.{Rose};
+ghost use Rattle.modem_ports.specs.Limits.{most_input};
 ghost use Rattle.modem_ports.specs.Told.{Takes, TakesPrefix};
+ghost use Rattle.noise_script.specs.Effects.{after_items};
 ghost use Rattle.report_lines.specs.Refusals.{answering, step_of};
 
 use crate::decoding::decoded;
-use capture_files::write_samples;
+use capture_files::{samples_of, write_samples};
 use command_words::{Command, Stage};
 use fixed_complex::Sample;
 use frame_stages::stage_text;
 use modem_links::frame_samples;
 use modem_ports::{Failed, Sink, Steps, write_all};
+use noise_script::Script;
 use report_lines::Refusal;
-use std::alloc::Global;
+use std::alloc::{AllocError, Global};
 
 /// What a command writes (own).
 #[derive(Drop)]
@@ -51,10 +55,23 @@ pub fn answer_of(
         Command::Send { rate, seed } => {
             Ok(Answer::Samples(frame_samples(alloc, rate, seed, input)?))
         }
+        Command::Noise { script } => Ok(Answer::Samples(noisy_samples(alloc, &script, input)?)),
         Command::Show { stage, rate, seed } => {
             Ok(Answer::Bytes(stage_text(alloc, stage, rate, seed, input)?))
         }
     }
+}
+
+// The samples of a capture after a script.
+fn noisy_samples(alloc: Global, script: &Script, capture: &[u8]) -> Result<Vec<Sample>, AllocError>
+    requires whole { length capture.now % 4 ≡ 0 }
+    requires most { length capture.now ≤ most_input }
+    ensures { IfOk result
+        (λ samples. samples.items ≡ after_items script.now (samples_in capture.now)) }
+{
+    let mut samples = samples_of(alloc, capture)?;
+    script.apply(&mut samples)?;
+    Ok(samples)
 }
 
 /// Writes the bytes of an answer to a sink (own). Takes no memory.

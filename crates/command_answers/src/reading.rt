@@ -1,7 +1,9 @@
 //! The input of a command, read to its end.
-ghost use Rattle.std.specs.Prelude.{◌≡◌, ◌⊎◌, ◌≤◌, length, IfOk, IfErr, IfSome};
+ghost use Rattle.std.specs.Prelude.{◌≡◌, ◌⊎◌, ◌%◌, ◌≤◌, length, IfOk, IfErr, IfSome};
 ghost use Rattle.std.specs.Result.{result_err};
+ghost use Rattle.capture_files.specs.Captures.{IsTorn};
 ghost use Rattle.command_answers.specs.Inputs.{IsAccepted, IsInput, Reads, RefusesInput, reads, refusal_of_fault};
+ghost use Rattle.modem_ports.specs.Limits.{most_input};
 ghost use Rattle.report_lines.specs.Refusals.{IsDecided, reading, status_of, step_of};
 
 use command_words::Command;
@@ -19,6 +21,8 @@ pub enum Reading {
     Psdu,
     /// An input of at most 67108864 bytes.
     Bytes,
+    /// A capture: so many bytes, and whole samples of four bytes each.
+    Capture,
 }
 
 impl Reading {
@@ -29,14 +33,15 @@ impl Reading {
         match command {
             Command::Bits { .. } | Command::Send { .. } | Command::Show { .. } => Reading::Psdu,
             Command::Decode { .. } => Reading::Bytes,
+            Command::Noise { .. } => Reading::Capture,
         }
     }
 }
 
 /// The input of a command, read to its end (own): `Ok` has the bytes that are left of the source.
 ///
-/// `EmptyPsdu`, `LongPsdu` and `LongCapture` come as the input alone decides, the two long ones as soon
-/// as the byte that passes the limit was taken. `ReadFault` comes only where the source's count of
+/// `EmptyPsdu`, `LongPsdu`, `TornCapture` and `LongCapture` come as the input alone decides, the two
+/// long ones as soon as the byte that passes the limit was taken, and the others at the end of input. `ReadFault` comes only where the source's count of
 /// faults rose in this call. `NoMemory` is free.
 pub fn read_input<S: Source>(
     alloc: Global,
@@ -63,6 +68,10 @@ pub fn read_input<S: Source>(
             Ok(bytes) => Ok(bytes),
             Err(fault) => Err(refusal_of(&fault, Refusal::LongCapture)),
         },
+        Reading::Capture => match read_all(alloc, source, MOST_INPUT) {
+            Ok(bytes) => whole_capture(bytes),
+            Err(fault) => Err(refusal_of(&fault, Refusal::LongCapture)),
+        },
     }
 }
 
@@ -77,6 +86,22 @@ fn whole_psdu(psdu: Vec<u8>) -> Result<Vec<u8>, Refusal>
         return Err(Refusal::EmptyPsdu);
     }
     Ok(psdu)
+}
+
+// A capture that was read, if its samples are whole.
+fn whole_capture(bytes: Vec<u8>) -> Result<Vec<u8>, Refusal>
+    requires most { length bytes.items ≤ most_input }
+    ensures capture { IfOk result (λ whole. whole.items ≡ bytes.items) }
+    ensures whole { IfOk result (λ whole. length whole.items % 4 ≡ 0) }
+    ensures torn { IfErr result (λ refusal. (refusal ≡ Refusal.TornCapture (length bytes.items))
+        × IsTorn (length bytes.items)) }
+{
+    if bytes.len() % 4 != 0 {
+        return Err(Refusal::TornCapture {
+            bytes: bytes.len() as u32,
+        });
+    }
+    Ok(bytes)
 }
 
 // The refusal of an input that was not read whole; `long` is that of a long one.

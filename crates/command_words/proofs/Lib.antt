@@ -1,2 +1,3 @@
 mod Absent
 pub mod Reading
+pub mod Refusing

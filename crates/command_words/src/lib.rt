@@ -1,6 +1,7 @@
 //! The words of the command line, and the commands that they say. No call takes memory.
 #![tactic(auto)]
 
+use noise_script::Script;
 use ofdm_scrambler::Seed;
 use rate_table::Rate;
 
@@ -29,7 +30,7 @@ pub enum Stage {
 }
 
 /// What the words ask for (own).
-#[derive(Clone, Copy, Debug, PartialEq, Eq)]
+#[derive(Drop)]
 pub enum Command {
     /// `bits RATE SEED`
     Bits {
@@ -45,6 +46,10 @@ pub enum Command {
     Send {
         rate: Rate,
         seed: Seed,
+    },
+    /// `noise SCRIPT`
+    Noise {
+        script: Script,
     },
     /// `show STAGE RATE SEED`
     Show {

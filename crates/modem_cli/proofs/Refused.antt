@@ -1,34 +1,45 @@
 -- What a refusal says of the outcome and of the status.
-use Rattle.std.proofs.Common.{◌≡◌, ◌⊎◌, inl, inr, ℕ, List, Option, Some, None, refl, ap, subst}
+use Rattle.std.proofs.Common.{◌≡◌, ◌⊎◌, inl, inr, ℕ, List, Option, Some, None, refl, ap, ◌∙◌, subst}
 use Rattle.std.specs.Option.{IfSome}
-use Rattle.report_lines.proofs.ByKind.{kinds, of_words}
+use Rattle.report_lines.proofs.ByKind.{kinds, of_asking, of_words}
 use Rattle.report_lines.specs.declared.Refusal.{Refusal}
-use Rattle.report_lines.specs.declared.Refusal.TheVariants.{NoMemory, ReadFault, Words, WriteFault}
+use Rattle.report_lines.specs.declared.Refusal.TheVariants.{NoMemory, ReadFault, WriteFault}
 use Rattle.report_lines.specs.declared.Status.{Status}
 use Rattle.report_lines.specs.declared.Status.TheVariants as status
-use Rattle.report_lines.specs.Refusals.{IsDecided, status_of}
+use Rattle.report_lines.specs.Refusals.{IsDecided, asking, status_of, step_of}
 use Rattle.command_words.specs.declared.Command.{Command}
-use Rattle.command_words.specs.Grammar.{Say, SayNothing}
+use Rattle.command_words.proofs.Reading.{one_command}
+use Rattle.command_words.proofs.Refusing.{refused_at}
+use Rattle.command_words.specs.Grammar.{AreRefusedFor, Say, SayNothing}
 use Rattle.command_answers.proofs.Outcomes.{nothing_said}
+use Rattle.command_answers.specs.declared.reading.Reading.{Reading}
 use Rattle.command_answers.specs.InOrder.{Outcome, Refuses, Writes}
+use Rattle.command_answers.specs.Inputs.{Reads, reads}
 use Rattle.command_answers.specs.Laws.{OneOutcome}
 use Rattle.command_answers.specs.Outcome.{AreRefused, HasOutcome, IsOutcome, MayFollow, RefusesWords, of_command, of_no_command}
 use Rattle.modem_cli.specs.Report.{TakesAnswer, TakesAnswerPrefix}
 
 -- a refusal with the status of bad words is theirs
-pub refuses_words : (words : List (List ℕ)) (refusal : Refusal) → (refusal ≡ Words → SayNothing words) → status_of refusal ≡ status.BadWords → RefusesWords words refusal
-refuses_words words refusal only is = let them = of_words refusal is in (is, λ bytes. of_no_command (only them) (ap Refuses them))
+pub refuses_words : (words : List (List ℕ)) (refusal : Refusal) → (step_of refusal ≡ asking → SayNothing words) → (step_of refusal ≡ asking → AreRefusedFor words refusal)
+    → status_of refusal ≡ status.BadWords → RefusesWords words refusal
+refuses_words words refusal none why is = let asks = of_words refusal is in (is, λ bytes. of_no_command (none asks) refusal (why asks) refl)
 
 -- what a command that finds no answer is refused for, where it isn't want of memory
 pub of_answering : (refusal : Refusal) (At Has : Type 0) → (refusal ≡ NoMemory) ⊎ (At × Has) → IsDecided (status_of refusal) → Has
 of_answering refusal At Has (inl want) decided = absurd (subst (λ r. IsDecided (status_of r)) want decided)
 of_answering refusal At Has (inr (at, has)) decided = has
 
+-- what a call that reads leaves of the source, for any command that the words say
+pub reads_of_said : (words : List (List ℕ)) (said command : Command) (kind : Reading) (before after : Option (List ℕ)) (faults faults' : ℕ) (refused : Option Refusal) → kind ≡ reads said
+    → Say words said → Say words command → Reads kind before after faults faults' refused → Reads (reads command) before after faults faults' refused
+reads_of_said words said command kind before after faults faults' refused is says says' has =
+    subst (λ k. Reads k before after faults faults' refused) (is ∙ ap reads (one_command words said command says says')) has
+
 -- the status of bad words comes exactly where they are refused
-pub bad_words : (words : List (List ℕ)) (refusal : Refusal) → (refusal ≡ Words → SayNothing words) → (SayNothing words → refusal ≡ Words)
-    → (status_of refusal ≡ status.BadWords → AreRefused words) × (AreRefused words → status_of refusal ≡ status.BadWords)
-bad_words words refusal only if =
-    (λ is. (refusal, refuses_words words refusal only is), λ refused. let is = if (nothing_said words refused) in rw is refl)
+pub bad_words : (words : List (List ℕ)) (refusal : Refusal) → (step_of refusal ≡ asking → SayNothing words) → (step_of refusal ≡ asking → AreRefusedFor words refusal)
+    → (SayNothing words → step_of refusal ≡ asking) → (status_of refusal ≡ status.BadWords → AreRefused words) × (AreRefused words → status_of refusal ≡ status.BadWords)
+bad_words words refusal none why if =
+    (λ is. (refusal, refuses_words words refusal none why is), λ refused. of_asking refusal (if (nothing_said words refused)))
 
 -- the statuses of a failed read and of want of memory may follow any outcome
 read_fault_follows : (outcome : Outcome) → MayFollow outcome status.ReadFault
@@ -119,7 +130,7 @@ module _ (one : OneOutcome) where
 
   -- where words and input decide a refusal that isn't of the words, it is the outcome's, of a command that the words say
   pub where_refused : (words : List (List ℕ)) (left : Option (List ℕ)) (refusal other : Refusal) (Given : Type 0)
-      → (IsDecided (status_of refusal) → IsOutcome words left (Refuses refusal)) → IsDecided (status_of refusal) → (other ≡ Words → ⊥)
+      → (IsDecided (status_of refusal) → IsOutcome words left (Refuses refusal)) → IsDecided (status_of refusal) → (step_of other ≡ asking → ⊥)
       → (refusal ≡ other → (command : Command) → Say words command → Given) → IfSome left (λ bytes. HasOutcome words bytes (Refuses other) → Given)
   where_refused words None refusal other Given decided is no_word given = tt
   where_refused words (Some bytes) refusal other Given decided is no_word given = λ has.
@@ -127,5 +138,5 @@ module _ (one : OneOutcome) where
       let refusal_is : refusal ≡ other = cc in
       elim has [
         | of_command command says of_it ↦ given refusal_is command says
-        | of_no_command none words_are ↦ absurd (no_word (let words_is = words_are in cc))
+        | of_no_command none cause why is_it ↦ absurd (no_word (let same_cause : other ≡ cause = cc in rw same_cause (refused_at words cause why)))
       ]

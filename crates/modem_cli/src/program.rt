@@ -1,19 +1,19 @@
 //! One run of the program, over any ports.
-ghost use Rattle.std.specs.Prelude.{◌≡◌, ◌≢◌, ◌↔◌, ◌+◌, ◌≤◌, ◌⊎◌, List, ℕ, IfErr, IfSome, IsErrOf, OnOk};
+ghost use Rattle.std.specs.Prelude.{◌≡◌, ◌≢◌, ◌↔◌, ◌+◌, ◌≤◌, ◌⊎◌, List, ℕ, IfErr, IfSome, IsErrAnd, IsErrOf, OnOk};
 ghost use Rattle.std.specs.Result.{result_err};
 ghost use Rattle.command_answers.specs.Flips.{IsFlippedText};
 ghost use Rattle.command_answers.specs.InOrder.{Outcome, Refuses, Writes};
 ghost use Rattle.command_answers.specs.Inputs.{Reads, reads};
 ghost use Rattle.command_answers.specs.Outcome.{AreRefused, HasOutcome, IsOutcome, MayFollow, ReadsInput, most_accepted, most_taken};
 ghost use Rattle.command_words.specs.declared.Command.{Command};
-ghost use Rattle.command_words.specs.Grammar.{Say, SayNothing, texts_of};
+ghost use Rattle.command_words.specs.Grammar.{AreRefusedFor, Say, SayNothing, texts_of};
 ghost use Rattle.modem_cli.specs.Report.{IsReported, IsWrittenUnlessNoMemory, TakesAnswer, TakesAnswerPrefix, TakesReport};
 ghost use Rattle.modem_ports.specs.Counts.{Rose};
 ghost use Rattle.modem_ports.specs.Limits.{most_input};
 ghost use Rattle.modem_ports.specs.Told.{GivesAtMost, GivesExactly, IsAtEnd};
 ghost use Rattle.rate_table.specs.Symbols.{most_octets};
 ghost use Rattle.report_lines.specs.declared.Refusal.{Refusal};
-ghost use Rattle.report_lines.specs.Refusals.{IsDecided, status_of};
+ghost use Rattle.report_lines.specs.Refusals.{IsDecided, asking, status_of, step_of};
 
 use command_answers::laws::{flipped_text_gives_its_psdu, outcome_is_one};
 use command_answers::{Reading, answer_of, read_input, write_answer};
@@ -28,8 +28,8 @@ use std::alloc::Global;
 ///
 /// The words are judged first, and the source isn't touched where they are refused (`BadWords`). Then
 /// the input is read: `ReadFault` at a read that fails, `BadInput` at the byte that passes the limit or
-/// for an empty PSDU. `out` is written only once all memory was taken, so `NoMemory` leaves it
-/// untouched; `WriteFault` leaves a prefix.
+/// at the end of an empty PSDU or a torn capture. `out` is written only once all memory was taken, so
+/// `NoMemory` leaves it untouched; `WriteFault` leaves a prefix.
 pub fn run<S: Source, K: Sink, E: Sink>(
     alloc: Global,
     words: &Vec<String>,
@@ -137,8 +137,12 @@ fn execute<S: Source, K: Sink>(
         (K.taken out.old) (K.taken out.new) }
     ensures outcome { IfErr result (λ refusal. IsDecided (status_of refusal)
         → IsOutcome (texts_of words.now) (S.left source.old) (Refuses refusal)) }
-    ensures words { IsErrOf result Refusal.Words ↔ SayNothing (texts_of words.now) }
-    ensures source_untouched { IsErrOf result Refusal.Words → source.new ≡ source.old }
+    ensures words { SayNothing (texts_of words.now)
+        ↔ IsErrAnd result (λ refusal. step_of refusal ≡ asking) }
+    ensures cause { IfErr result (λ refusal. step_of refusal ≡ asking
+        → AreRefusedFor (texts_of words.now) refusal) }
+    ensures source_untouched { IfErr result (λ refusal. step_of refusal ≡ asking
+        → source.new ≡ source.old) }
     ensures out_untouched { IfErr result (λ refusal.
         refusal ≢ Refusal.WriteFault → out.new ≡ out.old) }
     ensures reads { (command : Command) → Say (texts_of words.now) command
@@ -151,9 +155,7 @@ fn execute<S: Source, K: Sink>(
     ensures source_counted { S.faults source.old ≤ S.faults source.new }
     ensures out_counted { K.faults out.old ≤ K.faults out.new }
 {
-    let Some(command) = read_words(words) else {
-        return Err(Refusal::Words);
-    };
+    let command = read_words(words)?;
     let input = read_input(alloc, Reading::of(&command), source)?;
     let answer = answer_of(alloc, command, &input, steps)?;
     match write_answer(&answer, out) {

@@ -241,6 +241,8 @@ fn refuses_words(rt: HostRuntime) -> Result<(), Fail> {
         "send 6 128",
         "send 06 1",
         "send 6",
+        "noise",
+        "noise lead 1",
         "",
     ];
     for line in lines {
@@ -273,6 +275,101 @@ fn refuses_inputs(rt: HostRuntime) -> Result<(), Fail> {
             &rt,
             rt.alloc(),
             &refused(line, input, Status::BadInput, report),
+        )?;
+    }
+    Ok(())
+}
+
+// The command line is `noise` and one word more, which may be empty or have spaces.
+fn check_noise(rt: &impl Abort, alloc: Global, row: &Row) -> Result<(), AllocError> {
+    let mut words = words_of(alloc, "noise")?;
+    words.push(String::from_str(alloc, row.line)?)?;
+    let mut source = MemSource::open(alloc, row.input, 1000, &[])?;
+    let mut out = MemSink::open(alloc, ROOM, 4096, &[])?;
+    let mut report = MemSink::open(alloc, 80, 80, &[])?;
+    let mut steps = Steps::new();
+    let status = run(
+        alloc,
+        &words,
+        &mut source,
+        &mut out,
+        &mut report,
+        &mut steps,
+    );
+    assert!(rt; status == row.status, "status of {}", row.line);
+    assert!(rt; row.out.is(out.taken()), "answer of {}", row.line);
+    assert!(rt;
+        report.taken() == row.report.as_bytes(),
+        "report of {}",
+        row.line
+    );
+    Ok(())
+}
+
+#[test]
+fn noise_of_scripts(rt: HostRuntime) -> Result<(), Fail> {
+    let rows: [(&str, &[u8], &[u8]); 6] = [
+        (
+            "lead 2; spike 1 5 -7; trail 1",
+            b"",
+            &[0, 0, 0, 0, 5, 0, 0xF9, 0xFF, 0, 0, 0, 0],
+        ),
+        (
+            "lead 1; spike 0 30000 -30000; spike 0 30000 -30000",
+            b"",
+            &[0xFF, 0x7F, 0x00, 0x80],
+        ),
+        ("lead 3; cut 1 5", b"", &[0, 0, 0, 0]),
+        ("uniform 1 0", b"", b""),
+        ("uniform 15 7", &[0; 4], &[11, 0, 0xFD, 0xFF]),
+        (
+            "spike 1 1 -1",
+            b"12345678",
+            &[49, 50, 51, 52, 54, 54, 54, 56],
+        ),
+    ];
+    for (script, input, out) in rows {
+        check_noise(&rt, rt.alloc(), &answers(script, input, Out::Whole(out)))?;
+    }
+    Ok(())
+}
+
+// A bad script is refused whatever the input holds.
+#[test]
+fn refuses_scripts(rt: HostRuntime) -> Result<(), Fail> {
+    let rows = [
+        ("", "error 13: bad script at 0\n"),
+        ("lead", "error 13: bad script at 4\n"),
+        ("lead 01", "error 13: bad script at 6\n"),
+        ("lead 1;uniform 1 1", "error 13: bad script at 7\n"),
+        ("lead 5;", "error 13: bad script at 7\n"),
+        ("lead 1048577", "error 13: bad script at 11\n"),
+        ("spike 0 -0 1", "error 13: bad script at 9\n"),
+    ];
+    for (script, report) in rows {
+        for input in [&b"modem"[..], &b"a modem!"[..]] {
+            check_noise(
+                &rt,
+                rt.alloc(),
+                &refused(script, input, Status::BadWords, report),
+            )?;
+        }
+    }
+    Ok(())
+}
+
+#[test]
+fn refuses_torn_captures(rt: HostRuntime) -> Result<(), Fail> {
+    let rows: [(&[u8], &str); 3] = [
+        (b"m", "error 4: capture ends after 1 bytes\n"),
+        (b"modem", "error 4: capture ends after 5 bytes\n"),
+        (&[0; 4003], "error 4: capture ends after 4003 bytes\n"),
+    ];
+    for (input, report) in rows {
+        check_noise(
+            &rt,
+            rt.alloc(),
+            &refused("lead 1", input, Status::BadInput, report),
         )?;
     }
     Ok(())

@@ -1,7 +1,7 @@
 -- Refusals, statuses and report lines (own).
 use Rattle.std.specs.Prelude.{ℕ, List, [], ◌∷◌, ◌++◌, codes, decimal}
 use Rattle.report_lines.specs.declared.Refusal.{Refusal}
-use Rattle.report_lines.specs.declared.Refusal.TheVariants.{Words, EmptyPsdu, LongPsdu, LongCapture, BadBit, BitCount, ReadFault, WriteFault, NoMemory}
+use Rattle.report_lines.specs.declared.Refusal.TheVariants.{Words, EmptyPsdu, LongPsdu, TornCapture, LongCapture, BadBit, BitCount, ReadFault, WriteFault, NoMemory, BadScript}
 use Rattle.report_lines.specs.declared.Status.{Status}
 use Rattle.report_lines.specs.declared.Status.TheVariants as status
 
@@ -21,18 +21,22 @@ abbrev pub status_of : Refusal → Status
 status_of Words = status.BadWords
 status_of EmptyPsdu = status.BadInput
 status_of LongPsdu = status.BadInput
+status_of (TornCapture bytes) = status.BadInput
 status_of LongCapture = status.BadInput
 status_of (BadBit at) = status.BadInput
 status_of (BitCount have need) = status.BadInput
 status_of ReadFault = status.ReadFault
 status_of WriteFault = status.WriteFault
 status_of NoMemory = status.NoMemory
+status_of (BadScript at) = status.BadWords
 
 -- the report line of a refusal, without its newline
 abbrev pub report_of : Refusal → List ℕ
 report_of Words = codes "error 1: words"
 report_of EmptyPsdu = codes "error 2: empty psdu"
 report_of LongPsdu = codes "error 3: psdu over 4095 octets"
+report_of (TornCapture bytes) =
+    codes "error 4: capture ends after " ++ decimal bytes ++ codes " bytes"
 report_of LongCapture = codes "error 5: input over 67108864 bytes"
 report_of (BadBit at) = codes "error 6: no bit at " ++ decimal at
 report_of (BitCount have need) =
@@ -40,6 +44,7 @@ report_of (BitCount have need) =
 report_of ReadFault = codes "error 10: read fault"
 report_of WriteFault = codes "error 11: write fault"
 report_of NoMemory = codes "error 12: no memory"
+report_of (BadScript at) = codes "error 13: bad script at " ++ decimal at
 
 -- the report line: a newline ends it
 abbrev pub report_line : Refusal → List ℕ
@@ -70,9 +75,11 @@ abbrev pub step_of : Refusal → Step
 step_of Words = asking
 step_of EmptyPsdu = reading
 step_of LongPsdu = reading
+step_of (TornCapture bytes) = reading
 step_of LongCapture = reading
 step_of (BadBit at) = answering
 step_of (BitCount have need) = answering
 step_of ReadFault = reading
 step_of WriteFault = writing
 step_of NoMemory = any
+step_of (BadScript at) = asking

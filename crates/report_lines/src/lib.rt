@@ -60,6 +60,8 @@ pub enum Refusal {
     EmptyPsdu,
     /// A command that reads a PSDU took a 4096th octet.
     LongPsdu,
+    /// A capture ended after `bytes` bytes, which 4 does not divide.
+    TornCapture { bytes: u32 },
     /// Byte 67108865 of an input that is no PSDU was taken.
     LongCapture,
     /// The least place of a text of bits, counted from 0, that holds neither `0` nor `1`, the final
@@ -73,6 +75,9 @@ pub enum Refusal {
     WriteFault,
     /// Want of memory.
     NoMemory,
+    /// The words ask for noise with a text that is no script: it is bad at the place `at`, counted
+    /// from 0.
+    BadScript { at: usize },
 }
 
 impl Refusal {
@@ -81,9 +86,10 @@ impl Refusal {
         ensures { result ≡ status_of self }
     {
         match self {
-            Refusal::Words => Status::BadWords,
+            Refusal::Words | Refusal::BadScript { .. } => Status::BadWords,
             Refusal::EmptyPsdu
             | Refusal::LongPsdu
+            | Refusal::TornCapture { .. }
             | Refusal::LongCapture
             | Refusal::BadBit { .. }
             | Refusal::BitCount { .. } => Status::BadInput,

@@ -75,6 +75,9 @@ pub fn line_of(refusal: &Refusal) -> Line
         Refusal::Words => Line::of(b"error 1: words\n"),
         Refusal::EmptyPsdu => Line::of(b"error 2: empty psdu\n"),
         Refusal::LongPsdu => Line::of(b"error 3: psdu over 4095 octets\n"),
+        Refusal::TornCapture { bytes } => Line::of(b"error 4: capture ends after ")
+            .with_number(u64::from(*bytes))
+            .with(b" bytes\n"),
         Refusal::LongCapture => Line::of(b"error 5: input over 67108864 bytes\n"),
         Refusal::BadBit { at } => Line::of(b"error 6: no bit at ")
             .with_number(*at as u64)
@@ -87,5 +90,8 @@ pub fn line_of(refusal: &Refusal) -> Line
         Refusal::ReadFault => Line::of(b"error 10: read fault\n"),
         Refusal::WriteFault => Line::of(b"error 11: write fault\n"),
         Refusal::NoMemory => Line::of(b"error 12: no memory\n"),
+        Refusal::BadScript { at } => Line::of(b"error 13: bad script at ")
+            .with_number(*at as u64)
+            .with(b"\n"),
     }
 }

@@ -14,7 +14,7 @@ use Rattle.modem_cli.proofs.Written.{repaired_where_answered, repaired_where_ref
 use Rattle.modem_cli.proofs.program.run.Goals as goal
 
 pub returns-in-Ok-clause-bad_words : goal.returns-in-Ok-clause-bad_words
-returns-in-Ok-clause-bad_words g c = (λ is. cc, λ refused. let never = c.in-Ok.ensures.words.1 (nothing_said _ refused) in cc)
+returns-in-Ok-clause-bad_words g c = (λ is. cc, λ refused. absurd (c.in-Ok.ensures.words.0 (nothing_said _ refused)))
 
 pub returns-in-Ok-clause-refuses : goal.returns-in-Ok-clause-refuses
 returns-in-Ok-clause-refuses g c = λ unread.
@@ -24,7 +24,7 @@ pub returns-in-Err-clause-reported : goal.returns-in-Err-clause-reported
 returns-in-Err-clause-reported g c = λ failed. record {
   refusal = c.in-Err.refusal;
   has_status = cc;
-  of_words = λ is. refuses_words (texts_of c.args.words.now) c.in-Err.refusal (λ words. c.in-Err.ensures.words.0 (rw words refl)) (rw c.refuse.ensures.status at is);
+  of_words = λ is. refuses_words (texts_of c.args.words.now) c.in-Err.refusal c.in-Err.ensures.words.1 c.in-Err.ensures.cause (rw c.refuse.ensures.status at is);
   of_input = λ decided. c.in-Err.ensures.outcome (rw c.refuse.ensures.status at decided);
   is_taken = c.refuse.ensures.reported;
 }
@@ -32,7 +32,7 @@ returns-in-Err-clause-reported g c = λ failed. record {
 pub returns-in-Err-clause-bad_words : goal.returns-in-Err-clause-bad_words
 returns-in-Err-clause-bad_words g c =
     rw c.refuse.ensures.status (bad_words (texts_of c.args.words.now) c.in-Err.refusal
-    (λ is. c.in-Err.ensures.words.0 (rw is refl)) (λ none. let is = c.in-Err.ensures.words.1 none in cc))
+    c.in-Err.ensures.words.1 c.in-Err.ensures.cause c.in-Err.ensures.words.0)
 
 pub returns-in-Err-clause-answers : goal.returns-in-Err-clause-answers
 returns-in-Err-clause-answers g c = λ unread unwritten.
