@@ -23,6 +23,17 @@ pub struct Header {
     pub reserved: u8,
 }
 
+/// Why 24 bits say no header; where several faults stand together, the first of these is told (own).
+#[derive(Clone, Copy, Debug, PartialEq, Eq)]
+pub enum HeaderFault {
+    /// The sum of bits 0 to 17 is odd.
+    BadParity,
+    /// The pattern R1 to R4 names no rate; its number is R1 + 2 R2 + 4 R3 + 8 R4.
+    BadRate { pattern: u8 },
+    /// LENGTH is 0.
+    ZeroLength,
+}
+
 /// The 24 bits of a header: R1 to R4, the reserved bit, LENGTH with its least significant bit first, even parity, and
 /// six zeros (18.3.4). LENGTH is 1 to 4095, the reserved bit 0 or 1. Takes no memory.
 pub fn header_bits(header: &Header) -> [u8; 24]
