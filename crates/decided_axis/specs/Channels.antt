@@ -1,0 +1,28 @@
+-- Received carriers and an estimate over one channel, up to errors (own). The scale stands in place of a quotient:
+-- what is said of a pair holds of the scale times the pair.
+use Rattle.std.specs.Prelude.{ℕ, ◌*◌, pos, ◌+ℤ◌, ◌*ℤ◌, ◌≤ℤ◌}
+use Rattle.fixed_complex.specs.declared.Cx.{Cx}
+use Rattle.fixed_complex.specs.Pairs.{IsOfSize, minus, multiple, times}
+use Rattle.rate_table.specs.declared.Modulation.{Modulation}
+use Rattle.rate_table.specs.declared.Modulation.TheVariants.{Bpsk, Qpsk, Qam16, Qam64}
+
+-- the pair is at least so large in size: re^2 + im^2 is at least the bound's square
+pub record IsAtLeastOfSize (bound : ℕ) (a : Cx) : Type 0 where
+  pub size : pos (bound * bound) ≤ℤ (a.re *ℤ a.re +ℤ a.im *ℤ a.im)
+
+-- a carrier that was sent comes back as 32 times itself and the channel over the scale, to within an error in size
+pub record IsCarried (scale error : ℕ) (channel sent received : Cx) : Type 0 where
+  pub near : IsOfSize (scale * error)
+      (minus (multiple (pos scale) received) (multiple (pos 32) (times sent channel)))
+
+-- a channel is estimated as 41472 = 2 * 32 * 648 times itself over the scale, to within an error in size
+pub record IsEstimated (scale error : ℕ) (channel estimate : Cx) : Type 0 where
+  pub near : IsOfSize (scale * error)
+      (minus (multiple (pos scale) estimate) (multiple (pos 41472) channel))
+
+-- no point of a modulation is larger in size
+abbrev pub size_of_point : Modulation → ℕ
+size_of_point Bpsk = 648
+size_of_point Qpsk = 648
+size_of_point Qam16 = 870
+size_of_point Qam64 = 990
