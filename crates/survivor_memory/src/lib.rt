@@ -3,6 +3,7 @@
 #![tactic(auto)]
 
 ghost use Rattle.std.specs.Prelude.{◌≡◌, ℕ, ◌+◌, ◌*◌, ◌<◌, ◌≤◌, ◌^◌, List, [], ◌∷◌, ◌++◌, length, replicate, IfOk};
+ghost use Rattle.bit_lists.specs.Bits.{AreBits};
 ghost use Rattle.survivor_memory.specs.declared.PairCosts.{PairCosts};
 ghost use Rattle.survivor_memory.specs.Costs.{CostAtMost, IsLight};
 ghost use Rattle.survivor_memory.specs.Nearest.{IsNearest};
@@ -110,6 +111,9 @@ impl SurvivorMemory {
         requires places { length out.old ≡ length self.old.rows }
         ensures nearest { (pairs : List PairCosts) → Holds self.old pairs
             → IsNearest pairs out.new result }
+
+        // whatever it stood for
+        ensures bits { AreBits out.new }
         ensures holds { Holds self.new [] }
         ensures entries { AreEntries self.new.entries }
         ensures room { self.new.room ≡ self.old.room }
@@ -147,7 +151,8 @@ fn entries_at_start() -> [u8; 64]
 // Writes the list that rows of back bits give, followed from state 0 at their end.
 fn follow(rows: &[u64], out: &mut [u8])
     requires { length out.old ≡ length rows.now }
-    ensures { out.new ≡ followed rows.now (length rows.now) 0 }
+    ensures written { out.new ≡ followed rows.now (length rows.now) 0 }
+    ensures bits { AreBits out.new }
 {
     let mut state = 0u8;
     for place in (0..rows.len()).rev() {

@@ -3,6 +3,7 @@
 #![tactic(auto)]
 
 ghost use Rattle.std.specs.Prelude.{◌≡◌, ℕ, ◌+◌, ◌<◌, ◌≤◌, List, [], ◌∷◌, ◌++◌, length, IfOk};
+ghost use Rattle.bit_lists.specs.Bits.{AreBits};
 ghost use Rattle.modem_ports.specs.Counts.{raised_by};
 ghost use Rattle.rate_table.specs.declared.CodeRate.{CodeRate};
 ghost use Rattle.survivor_memory.specs.Survivors.{AreEntries, DifferByAtMost};
@@ -106,6 +107,9 @@ impl Trellis {
             → StandsFor self.old (marks_of rate decisions steps)
             → AreNearlyKeptCode rate steps u decisions
             → (out.new ≡ u) × (result ≡ changes rate steps u decisions) }
+
+        // whatever it stood for
+        ensures bits { AreBits out.new }
         ensures stands { StandsFor self.new [] }
         ensures entries { AreEntries self.new.entries }
         ensures room { self.new.room ≡ self.old.room }

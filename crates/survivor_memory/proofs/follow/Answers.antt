@@ -1,6 +1,8 @@
-use Rattle.std.proofs.Common.{◌≡◌, ℕ, ◌+◌, ◌-◌, ◌*◌, ◌/◌, ◌%◌, ◌<◌, ◌++◌, List, length, get_or, drop, set, zero, suc, ◌∙◌, add-one, arith, append_assoc}
+use Rattle.std.proofs.Common.{◌≡◌, ℕ, ◌+◌, ◌-◌, ◌*◌, ◌/◌, ◌%◌, ◌<◌, ◌++◌, List, [], ◌∷◌, length, get_or, drop, set, zero, suc, ◌∙◌, add-one, arith, append_assoc}
 use Rattle.std.specs.Int.{bit_at}
 use Rattle.std.proofs.lemmas.List.{drop-set}
+use Rattle.std.proofs.lemmas.List.Elements.{All-append, All-cons, All-nil}
+use Rattle.bit_lists.specs.Bits.{AreBits, IsBit}
 use Rattle.survivor_memory.specs.Survivors.{followed}
 use Rattle.survivor_memory.proofs.follow.Goals as goal
 
@@ -20,6 +22,16 @@ loop-place-preserved c = record {
   written = step_back c.args.rows.now c.loop-place.out c.loop-place.place c.loop-place.state c.loop-place-test.true (omega arith) ∙ c.loop-place.invariant.written;
 }
 
-pub returns : goal.returns
+pub returns-clause-written : goal.returns-clause-written
 unfolding followed
-returns c = let done : c.loop-place.place ≡ 0 = omega arith in rw done at c.loop-place.invariant.written
+returns-clause-written c = let done : c.loop-place.place ≡ 0 = omega arith in rw done at c.loop-place.invariant.written
+
+-- each input that rows give is a state's lowest bit
+followed_bits : (rows : List ℕ) (count state : ℕ) → AreBits (followed rows count state)
+unfolding followed
+followed_bits rows zero state = All-nil IsBit
+followed_bits rows (suc count) state =
+    All-append IsBit _ (state % 2 ∷ []) (followed_bits rows count _) (All-cons IsBit (state % 2) [] (omega arith) (All-nil IsBit))
+
+pub returns-clause-bits : goal.returns-clause-bits
+returns-clause-bits c = rw (returns-clause-written c) (followed_bits c.args.rows.now (length c.args.rows.now) 0)
