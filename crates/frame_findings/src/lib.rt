@@ -1,0 +1,92 @@
+//! The findings of a capture: all its frames, and at most one cut (own).
+#![tactic(auto)]
+
+ghost use Rattle.std.specs.Prelude.{◌≡◌};
+
+use bit_lists::Octets;
+use rate_table::Rate;
+use std::marker::Model;
+
+/// A frame that was heard: the place of its first sample, what its header says, the number that names the front of its
+/// field, 0 to 127, and its PSDU (own).
+#[derive(Drop)]
+pub struct Heard {
+    /// In samples.
+    pub start: u32,
+    pub rate: Rate,
+    /// LENGTH, in octets: 1 to 4095.
+    pub length: u16,
+    /// 0 where the field begins with seven zeros; nothing is then descrambled.
+    pub seed: u8,
+    pub psdu: Octets,
+}
+
+/// A frame that the capture ends in: the place of its first sample, how many samples stand from there on, and how many
+/// it has by its header (own).
+#[derive(Clone, Copy, Debug, PartialEq, Eq)]
+pub struct Cut {
+    pub start: u32,
+    pub have: u32,
+    pub need: u32,
+}
+
+/// Frames that were heard, in order. Contracts see them as a list.
+#[derive(Drop)]
+pub struct HeardList {
+    items: Vec<Heard>,
+}
+
+impl Model for HeardList {
+    ghost use Rattle.std.specs.Prelude.{List};
+    ghost use Rattle.frame_findings.specs.declared.Heard.{Heard};
+
+    ghost Value = { List Heard };
+
+    ghost view = { λ list. list.items.items };
+}
+
+impl HeardList {
+    /// The frames, in order. Takes no memory.
+    pub fn as_slice(&self) -> &[Heard]
+        ensures { result.now ≡ self.now }
+    {
+        self.items.as_slice()
+    }
+}
+
+/// What is received of a capture: all its frames in order, and the cut that it ends in, if it does (own).
+#[derive(Drop)]
+pub struct Reception {
+    pub heard: HeardList,
+    pub cut: Option<Cut>,
+}
+
+/// What stands at an edge (own).
+#[derive(Clone, Copy, Debug, PartialEq, Eq)]
+pub enum Finding {
+    /// Fewer than 400 samples stand from there on.
+    Short,
+    /// The first 320 don't match the training fields.
+    NoMatch,
+    /// The sum of bits 0 to 17 of the header is odd.
+    BadParity,
+    /// The pattern of the header names no rate; its number is R1 + 2 R2 + 4 R3 + 8 R4.
+    BadRate {
+        pattern: u8,
+    },
+    /// LENGTH of the header is 0.
+    ZeroLength,
+    /// The header is good, whether its frame is whole or not.
+    Good {
+        rate: Rate,
+        length: u16,
+        reserved: u8,
+    },
+}
+
+/// An edge, and what stands there (own).
+#[derive(Clone, Copy, Debug, PartialEq, Eq)]
+pub struct EdgeReport {
+    pub place: u32,
+    pub finding: Finding,
+}
