@@ -1,0 +1,4 @@
+pub mod Bodies
+pub mod Groups
+pub mod Bounds
+pub mod Symbols
