@@ -7,6 +7,8 @@ use bit_lists::Octets;
 use rate_table::Rate;
 use std::marker::Model;
 
+pub mod laws;
+
 /// A frame that was heard: the place of its first sample, what its header says, the number that names the front of its
 /// field, 0 to 127, and its PSDU (own).
 #[derive(Drop)]

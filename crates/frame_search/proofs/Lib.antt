@@ -1,3 +1,4 @@
 pub mod Table
 pub mod Stretches
 pub mod Runs
+pub mod Fronts

@@ -1,16 +1,11 @@
 -- The run of quiet samples before a place: what it says of the samples there, and how it grows.
-use Rattle.std.proofs.Common.{◌≡◌, ℕ, zero, suc, ◌+◌, ◌<◌, ◌≤◌, ◌∙◌, ◌⊎◌, Bool, true, false, min, List, refl, ap, arith, inl, inr}
-use Rattle.std.proofs.lemmas.Bool.{cases_lt}
+use Rattle.std.proofs.Common.{◌≡◌, ℕ, zero, suc, ◌+◌, ◌<◌, ◌≤◌, ◌∙◌, ◌⊎◌, true, false, min, List, refl, ap, arith, inl, inr}
+use Rattle.std.proofs.lemmas.Bool.{cases_Bool, cases_lt}
 use Rattle.fixed_complex.specs.declared.Sample.{Sample}
 use Rattle.fixed_complex.specs.Samples.{sample_at}
 use Rattle.lane_kernels.specs.Kernels.{is_loud}
 use Rattle.frame_search.specs.Edges.{IsEdge, IsQuietBefore}
 use Rattle.frame_search.specs.Runs.{quiet_before}
-
--- a sample is loud or not
-loud_or_quiet : (b : Bool) → (b ≡ true) ⊎ (b ≡ false)
-loud_or_quiet true = inl refl
-loud_or_quiet false = inr refl
 
 -- before the first place
 pub run_at_start : (xs : List Sample) → quiet_before xs 0 ≡ 16
@@ -36,7 +31,7 @@ run_quiet xs p quiet = let next : p + 1 ≡ suc p = omega arith in ap (quiet_bef
 pub run_at_most : (xs : List Sample) (p : ℕ) → quiet_before xs p ≤ 16
 run_at_most xs zero = omega (arith, run_at_start xs)
 run_at_most xs (suc p) =
-    elim (loud_or_quiet (is_loud (sample_at xs p))) [
+    elim (cases_Bool (is_loud (sample_at xs p))) [
       | inl loud ↦ omega (arith, loud_next xs p loud)
       | inr quiet ↦ omega (arith, quiet_next xs p quiet)
     ]
@@ -45,7 +40,7 @@ run_at_most xs (suc p) =
 pub run_is_quiet : (xs : List Sample) (p n : ℕ) → n < p → p ≤ n + quiet_before xs p → is_loud (sample_at xs n) ≡ false
 run_is_quiet xs zero n below run = absurd (omega arith)
 run_is_quiet xs (suc p) n below run =
-    elim (loud_or_quiet (is_loud (sample_at xs p))) [
+    elim (cases_Bool (is_loud (sample_at xs p))) [
       | inl loud ↦ absurd (omega (arith, loud_next xs p loud))
       | inr quiet ↦ elim (cases_lt n p) [
         | inl lt ↦ run_is_quiet xs p n lt (omega (arith, quiet_next xs p quiet))
@@ -62,7 +57,7 @@ record StopsAt (xs : List Sample) (p : ℕ) (n : ℕ) : Type 0 where
 run_stops : (xs : List Sample) (p : ℕ) → quiet_before xs p < 16 → (n : ℕ) × StopsAt xs p n
 run_stops xs zero short = absurd (omega (arith, run_at_start xs))
 run_stops xs (suc p) short =
-    elim (loud_or_quiet (is_loud (sample_at xs p))) [
+    elim (cases_Bool (is_loud (sample_at xs p))) [
       | inl loud ↦ (p, record { below = omega arith; run = omega (arith, loud_next xs p loud); loud = loud })
       | inr quiet ↦
           let grown = quiet_next xs p quiet in
@@ -94,7 +89,7 @@ run_before_edge xs p edge = run_of_quiet xs p edge.quiet
 
 pub edge_or_not : (xs : List Sample) (p : ℕ) → IsEdge xs p ⊎ (IsEdge xs p → ⊥)
 edge_or_not xs p =
-    elim (loud_or_quiet (is_loud (sample_at xs p))) [
+    elim (cases_Bool (is_loud (sample_at xs p))) [
       | inl loud ↦ elim (cases_lt (quiet_before xs p) 16) [
         | inl short ↦ inr (λ edge. absurd (omega (arith, run_before_edge xs p edge)))
         | inr whole ↦ inl (edge_after_run xs p loud (omega (arith, run_at_most xs p)))
