@@ -22,7 +22,6 @@ use viterbi_lanes::Trellis;
 
 mod frames;
 pub mod laws;
-mod marks;
 
 pub use frames::{SendFault, frame_samples, interleaved_symbol, points_of_code, send, signal_code};
 
@@ -80,13 +79,7 @@ pub fn decode_field(
     let bits_through_tail = 22 + 8 * usize::from(octets);
     let mut trellis = Trellis::open(alloc, bits_through_tail)?;
     let mut bits = vec![in alloc; 0u8; bits_through_tail]?;
-    marks::feed(
-        &mut trellis,
-        rate.code_rate(),
-        decisions,
-        bits_through_tail,
-        steps,
-    );
+    trellis.feed(rate.code_rate(), decisions, bits_through_tail, steps);
     let distance = trellis.finish(&mut bits);
     let (seed, psdu) = read_field(alloc, octets, &mut bits)?;
     Ok(Field {

@@ -1,3 +1,4 @@
 pub mod Decisions
 pub mod Distances
 pub mod Nearest
+pub mod Symbols

@@ -1,10 +1,12 @@
 -- The marks of hard decisions (own), over the kept places of the code (IEEE Std 802.11-2012,
 -- 18.3.5.6): these carry the decisions in order, and the marks of all other places are absent.
-use Rattle.std.specs.Prelude.{ℕ, ◌+◌, ◌*◌, ◌==◌, ◌≤◌, List, map, slice_index, if◌then◌else◌}
+use Rattle.std.specs.Prelude.{ℕ, ◌+◌, ◌*◌, ◌==◌, ◌≤◌, List, map, min, slice_index, if◌then◌else◌}
 use Rattle.std.specs.List.{range_with_len}
 use Rattle.bit_lists.specs.Bits.{AreBits}
 use Rattle.rate_table.specs.declared.CodeRate.{CodeRate}
-use Rattle.rate_table.specs.Table.{flip_bound_of}
+use Rattle.rate_table.specs.declared.Rate.{Rate}
+use Rattle.rate_table.specs.Symbols.{bits_through_tail}
+use Rattle.rate_table.specs.Table.{flip_bound_of, row_of}
 use Rattle.puncture_map.specs.Kept.{is_kept, kept_count, kept_code, rank}
 use Rattle.survivor_memory.specs.Nearest.{IsClosed}
 use Rattle.kept_weights.specs.Weights.{distance_over}
@@ -38,3 +40,9 @@ pub record AreNearlyKeptCode (rate : CodeRate) (steps : ℕ) (u decisions : List
   pub bits : AreBits decisions
   pub closed : IsClosed steps u
   pub few : changes rate steps u decisions ≤ flip_bound_of rate
+
+-- how many steps the first so many symbols of a DATA field of so many octets carry, up to the end of
+-- the tail
+abbrev pub carried_steps : Rate → ℕ → ℕ → ℕ
+carried_steps rate octets symbols =
+    min (symbols * (row_of rate).field_bits) (bits_through_tail octets)

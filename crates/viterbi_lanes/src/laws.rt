@@ -1,8 +1,10 @@
 //! What holds of distances, of nearest lists and of the marks of decisions. The functions do nothing: what each ensures
 //! is the law.
-ghost use Rattle.std.specs.Prelude.{◌≡◌, ℕ, ◌+◌, ◌≤◌, List, [], ◌∷◌, ◌++◌, length, map, take};
+ghost use Rattle.std.specs.Prelude.{◌≡◌, ℕ, ◌+◌, ◌*◌, ◌≤◌, List, [], ◌∷◌, ◌++◌, length, map, take};
 ghost use Rattle.bit_lists.specs.Bits.{AreBits};
 ghost use Rattle.rate_table.specs.declared.CodeRate.{CodeRate};
+ghost use Rattle.rate_table.specs.declared.Rate.{Rate};
+ghost use Rattle.rate_table.specs.Table.{row_of};
 ghost use Rattle.puncture_map.specs.Kept.{kept_count};
 ghost use Rattle.survivor_memory.specs.Costs.{cost};
 ghost use Rattle.survivor_memory.specs.Nearest.{IsNearest};
@@ -51,6 +53,17 @@ pub fn marks_of_decisions()
     ensures distance { (rate : CodeRate) (u decisions : List ℕ) (steps : ℕ) → AreBits decisions
         → length u ≡ steps
         → distance (marks_of rate decisions steps) u ≡ changes rate steps u decisions }
+{}
+
+/// The marks of whole symbols and of some steps more are those of either behind one another, since puncturing runs
+/// through the field and a symbol's steps are whole periods (own, by 18.3.2.3 and 18.3.5.6).
+pub fn marks_of_symbols()
+    ensures { (rate : Rate) (before symbol : List ℕ) (symbols steps : ℕ)
+        → length before ≡ symbols * (row_of rate).coded_bits
+        → marks_of (row_of rate).code_rate (before ++ symbol)
+        (symbols * (row_of rate).field_bits + steps)
+        ≡ marks_of (row_of rate).code_rate before (symbols * (row_of rate).field_bits)
+        ++ marks_of (row_of rate).code_rate symbol steps }
 {}
 
 /// The kept code of a list that ends in six zeros, with as few changes as are repaired, has that list as the nearest, and

@@ -17,6 +17,7 @@ use std::marker::Model;
 use survivor_memory::{PairCosts, SurvivorMemory};
 
 pub mod laws;
+mod marks;
 
 /// One decision, or none where the place of the code is punctured (own).
 #[derive(Clone, Copy, Debug, PartialEq, Eq)]

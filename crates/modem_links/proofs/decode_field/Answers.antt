@@ -1,4 +1,4 @@
-use Rattle.std.proofs.Common.{◌≡◌, ◌+◌, ◌*◌, ◌∙◌, length, drop, sym, arith}
+use Rattle.std.proofs.Common.{◌≡◌, ◌+◌, ◌*◌, ◌∙◌, [], length, drop, sym, arith}
 use Rattle.std.proofs.lemmas.List.{take_at}
 use Rattle.rate_table.specs.Symbols.{bits_through_tail}
 use Rattle.rate_table.specs.Table.{row_of}
@@ -13,10 +13,10 @@ feed-requires-clause-decisions c =
     rw (c.code_rate.ensures, steps) (omega (arith, c.requires.whole, enough_decisions c.args.rate c.args.octets))
 
 -- what the trellis stands for before its end
-stood : (c : goal.After-drop-trellis-inside-2) → StandsFor c.feed.new.trellis (marks_of (row_of c.args.rate).code_rate c.args.decisions.now (bits_through_tail c.args.octets))
+stood : (c : goal.After-drop-trellis-inside-2) → StandsFor c.feed.new.self (marks_of (row_of c.args.rate).code_rate c.args.decisions.now (bits_through_tail c.args.octets))
 stood c =
     let steps : 22 + 8 * c.from.result ≡ bits_through_tail c.args.octets = omega (arith, c.from.ensures) in
-    rw (c.code_rate.ensures, steps) at c.feed.ensures.stands
+    rw (c.code_rate.ensures, steps) at (c.feed.ensures.appended [] c.in_ok-trellis.ensures.stands)
 
 -- the bits that are read are those that the trellis wrote
 read_bits : (c : goal.After-drop-trellis-inside-2) → c.deref_mut-2.result.now ≡ c.finish-distance.new.out

@@ -3,7 +3,7 @@ use mir.Val.{bool_byte}
 use Rattle.puncture_map.specs.Kept.{is_kept}
 use Rattle.puncture_map.proofs.Ranks.{rank-below, rank-more}
 use Rattle.viterbi_lanes.specs.Decisions.{marks_at}
-use Rattle.modem_links.proofs.marks.pair.Goals as goal
+use Rattle.viterbi_lanes.proofs.marks.pair.Goals as goal
 
 pub mark-requires-clause-decisions : goal.mark-requires-clause-decisions
 mark-requires-clause-decisions c = λ kept.

@@ -1,0 +1,103 @@
+//! The marks of decisions: those of kept places, in order, and absent ones.
+ghost use Rattle.std.specs.Prelude.{◌≡◌, ℕ, ◌+◌, ◌-◌, ◌*◌, ◌<◌, ◌≤◌, ◌^◌, List, ◌++◌, true, length};
+ghost use Rattle.modem_ports.specs.Counts.{raised_by};
+ghost use Rattle.puncture_map.specs.Kept.{is_kept, kept_count, rank};
+ghost use Rattle.rate_table.specs.Symbols.{IsLength, bits_through_tail, symbol_count};
+ghost use Rattle.rate_table.specs.Table.{row_of};
+ghost use Rattle.survivor_memory.specs.Survivors.{AreEntries};
+ghost use Rattle.viterbi_lanes.specs.declared.Mark.{Mark};
+ghost use Rattle.viterbi_lanes.specs.Decisions.{carried_steps, mark_at, marks_at, marks_of};
+ghost use Rattle.viterbi_lanes.specs.Marks.{StandsFor};
+
+use crate::{Mark, Trellis};
+use modem_ports::Steps;
+use puncture_map::{kept, kept_before};
+use rate_table::{CodeRate, Rate};
+
+impl Trellis {
+    /// Appends the marks of so many steps, at least one and at most 2^20, of decisions in code order (18.3.5.6). There is
+    /// room for them, and there are decisions enough; those behind play no part. The count of steps rises by so many.
+    /// Takes no memory.
+    pub fn feed(&mut self, rate: CodeRate, decisions: &[u8], count: usize, steps: &mut Steps)
+        requires some { 1 ≤ count }
+        requires few { count ≤ 2 ^ 20 }
+        requires room { length self.old.rows + count ≤ self.old.room }
+        requires decisions { kept_count rate count ≤ length decisions.now }
+        ensures appended { (marks : List (Mark × Mark)) → StandsFor self.old marks
+            → StandsFor self.new (marks ++ marks_of rate decisions.now count) }
+        ensures held { length self.new.rows ≡ length self.old.rows + count }
+        ensures entries { AreEntries self.new.entries }
+        ensures room { self.new.room ≡ self.old.room }
+        ensures counted { steps.new ≡ raised_by count steps.old }
+    {
+        for step in 0..count {
+            let (a, b) = pair(rate, decisions, step);
+            self.step(a, b, steps);
+        }
+    }
+
+    /// Appends the marks of one symbol of a DATA field of so many octets, 1 to 4095, whose symbols before it are held: those
+    /// of the symbol's N_CBPS decisions, in code order, as far as the end of the tail (18.3.5.4 and 18.3.5.6). There is
+    /// room for the whole field. The count of steps rises by one for each step, so by at most 216. Takes no memory.
+    pub fn feed_symbol(
+        &mut self,
+        rate: Rate,
+        octets: u16,
+        symbol: usize,
+        decisions: &[u8],
+        steps: &mut Steps,
+    )
+        requires octets { IsLength octets }
+        requires symbol { symbol < symbol_count (row_of rate).field_bits octets }
+        requires held { length self.old.rows ≡ carried_steps rate octets symbol }
+        requires room { bits_through_tail octets ≤ self.old.room }
+        requires decisions { length decisions.now ≡ (row_of rate).coded_bits }
+        ensures appended { (before : List ℕ) → length before ≡ symbol * (row_of rate).coded_bits
+            → StandsFor self.old
+            (marks_of (row_of rate).code_rate before (carried_steps rate octets symbol))
+            → StandsFor self.new
+            (marks_of (row_of rate).code_rate (before ++ decisions.now)
+            (carried_steps rate octets (symbol + 1))) }
+        ensures held { length self.new.rows ≡ carried_steps rate octets (symbol + 1) }
+        ensures entries { AreEntries self.new.entries }
+        ensures room { self.new.room ≡ self.old.room }
+        ensures counted { steps.new
+            ≡ raised_by (carried_steps rate octets (symbol + 1) - carried_steps rate octets symbol)
+            steps.old }
+        ensures counted_at_most { steps.new ≤ steps.old + 216 }
+    {
+        let field_bits = rate.field_bits();
+        let bits_through_tail = 22 + 8 * usize::from(octets);
+        let left = bits_through_tail - symbol * field_bits;
+        self.feed(rate.code_rate(), decisions, field_bits.min(left), steps);
+    }
+}
+
+// The marks of a step, for A and for B.
+fn pair(rate: CodeRate, decisions: &[u8], step: usize) -> (Mark, Mark)
+    requires few { step < 2 ^ 20 }
+    requires decisions { kept_count rate (step + 1) ≤ length decisions.now }
+    ensures { result ≡ marks_at rate decisions.now step }
+{
+    let first = kept_before(rate, step);
+    let second = first + usize::from(kept(rate, 2 * step));
+    (
+        mark(rate, decisions, 2 * step, first),
+        mark(rate, decisions, 2 * step + 1, second),
+    )
+}
+
+// The mark at a place that has so many kept places before it.
+fn mark(rate: CodeRate, decisions: &[u8], place: usize, next: usize) -> Mark
+    requires next { next ≡ rank rate place }
+    requires decisions { is_kept rate place ≡ true → next < length decisions.now }
+    ensures { result ≡ mark_at rate decisions.now place }
+{
+    if !kept(rate, place) {
+        Mark::Absent
+    } else if decisions[next] == 0 {
+        Mark::Zero
+    } else {
+        Mark::One
+    }
+}
