@@ -7,10 +7,11 @@ use Rattle.modem_links.specs.Laws.{FewFlips}
 use Rattle.modem_ports.specs.Limits.{most_input}
 use Rattle.rate_table.proofs.ByRate.{by_rate}
 use Rattle.rate_table.specs.declared.Rate.{Rate}
+use Rattle.command_words.specs.declared.Request.TheVariants.{Decode}
 use Rattle.command_answers.specs.Decoding.{bits_needed}
 use Rattle.command_answers.specs.InOrder.{passed, with_it}
 use Rattle.command_answers.specs.Laws.{FlippedTextGivesItsPsdu}
-use Rattle.command_answers.specs.Outcome.{of_command}
+use Rattle.command_answers.specs.Outcome.{of_request}
 use Rattle.command_answers.proofs.OfText.{of_bits}
 
 few_needed : (rate : Rate) (octets : ℕ) → octets ≤ 4095 → bits_needed rate octets ≤ 70000
@@ -30,4 +31,4 @@ pub flipped_outcome : FewFlips → FlippedTextGivesItsPsdu
 flipped_outcome few words bytes psdu h =
     let field = few h.rate h.seed psdu h.bits h.is_seed h.octets h.are_bits h.few in
     let short = short_enough h.rate (length psdu) bytes h.bits h.asked.in_range.1 h.text h.enough in
-    of_command _ h.asked (passed (λ long. omega (arith, long, short)) (of_bits bytes h.bits _ _ (h.are_bits, h.text) (passed (λ other. other h.enough) (with_it psdu (h.seed, (flips h.rate h.seed psdu h.bits, field)) refl))))
+    of_request (Decode h.rate (length psdu)) (record { said = h.asked; carried = tt }) (passed (λ long. omega (arith, long, short)) (of_bits bytes h.bits _ _ (h.are_bits, h.text) (passed (λ other. other h.enough) (with_it psdu (h.seed, (flips h.rate h.seed psdu h.bits, field)) refl))))

@@ -21,7 +21,7 @@ abbrev pub reads : Command → Reading
 reads (Bits rate seed) = Psdu
 reads (Decode rate octets) = Bytes
 reads (Send rate seed) = Psdu
-reads (Noise items) = Capture
+reads Noise = Capture
 reads (Show stage rate seed) = Psdu
 
 -- the most bytes of input that are accepted

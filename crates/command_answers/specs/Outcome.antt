@@ -6,34 +6,36 @@ use Rattle.report_lines.specs.declared.Status.{Status}
 use Rattle.report_lines.specs.declared.Status.TheVariants as status
 use Rattle.report_lines.specs.Refusals.{status_of}
 use Rattle.command_words.specs.declared.Command.{Command}
-use Rattle.command_words.specs.declared.Command.TheVariants.{Bits, Decode, Send, Noise, Show}
+use Rattle.command_words.specs.declared.Request.{Request}
+use Rattle.command_words.specs.declared.Request.TheVariants.{Bits, Decode, Send, Noise, Show}
 use Rattle.command_words.specs.declared.Stage.TheVariants.{Kept}
-use Rattle.command_words.specs.Grammar.{AreRefusedFor, Say, SayNothing}
+use Rattle.command_words.specs.Asking.{AreRefusedFor, AskFor, command_of}
 use Rattle.frame_stages.specs.Stages.{stage_text_of}
 use Rattle.command_answers.specs.Answers.{noisy_bytes}
 use Rattle.command_answers.specs.Decoding.{DecodeOutcome}
 use Rattle.command_answers.specs.InOrder.{Outcome, Refuses, Writes}
 use Rattle.command_answers.specs.Inputs.{OfInput, ReadsToEnd, accepted, reads, taken}
 
--- the outcome of a command and what it read
-abbrev pub AnswerOf : Command → List ℕ → Outcome → Type 0
+-- the outcome of a request and what was read
+abbrev pub AnswerOf : Request → List ℕ → Outcome → Type 0
 AnswerOf (Bits rate seed) read outcome = outcome ≡ Writes (stage_text_of Kept rate seed read)
 AnswerOf (Decode rate octets) read outcome = DecodeOutcome rate octets read outcome
 AnswerOf (Send rate seed) read outcome = outcome ≡ Writes (sent_bytes rate seed read)
 AnswerOf (Noise items) read outcome = outcome ≡ Writes (noisy_bytes items read)
 AnswerOf (Show stage rate seed) read outcome = outcome ≡ Writes (stage_text_of stage rate seed read)
 
--- the outcome of a command and the bytes of the input
-abbrev pub CommandOutcome : Command → List ℕ → Outcome → Type 0
-CommandOutcome command bytes outcome = OfInput (reads command) (AnswerOf command) bytes outcome
+-- the outcome of a request and the bytes of the input
+abbrev pub RequestOutcome : Request → List ℕ → Outcome → Type 0
+RequestOutcome request bytes outcome =
+    OfInput (reads (command_of request)) (AnswerOf request) bytes outcome
 
--- words and the bytes of the input have an outcome: that of the command which the words say, or what
--- the words are refused for
+-- words and the bytes of the input have an outcome: that of what the words ask for, or what the words
+-- are refused for
 pub data HasOutcome (words : List (List ℕ)) (bytes : List ℕ) (outcome : Outcome) : Type 0 where
-  of_command : (command : Command) → Say words command → CommandOutcome command bytes outcome
+  of_request : (request : Request) → AskFor words request → RequestOutcome request bytes outcome
       → HasOutcome words bytes outcome
-  of_no_command : SayNothing words → (refusal : Refusal) → AreRefusedFor words refusal
-      → outcome ≡ Refuses refusal → HasOutcome words bytes outcome
+  of_words : (refusal : Refusal) → AreRefusedFor words refusal → outcome ≡ Refuses refusal
+      → HasOutcome words bytes outcome
 
 -- the same of the bytes that a source tells
 abbrev pub IsOutcome : List (List ℕ) → Option (List ℕ) → Outcome → Type 0

@@ -5,6 +5,7 @@ ghost use Rattle.command_answers.specs.Answers.{bytes_of_answer};
 ghost use Rattle.command_answers.specs.InOrder.{Refuses, Writes};
 ghost use Rattle.command_answers.specs.Inputs.{IsAccepted, reads};
 ghost use Rattle.command_answers.specs.Outcome.{AnswerOf};
+ghost use Rattle.command_words.specs.Asking.{command_of};
 ghost use Rattle.command_words.specs.Grammar.{IsInRange};
 ghost use Rattle.modem_ports.specs.Counts.{Rose};
 ghost use Rattle.modem_ports.specs.Limits.{most_input};
@@ -14,7 +15,7 @@ ghost use Rattle.report_lines.specs.Refusals.{answering, step_of};
 
 use crate::decoding::decoded;
 use capture_files::{samples_of, write_samples};
-use command_words::{Command, Stage};
+use command_words::{Request, Stage};
 use fixed_complex::Sample;
 use frame_stages::stage_text;
 use modem_links::frame_samples;
@@ -36,27 +37,27 @@ pub enum Answer {
 /// that is its outcome, or `NoMemory`, which is free. `steps` counts the steps of the trellis.
 pub fn answer_of(
     alloc: Global,
-    command: Command,
+    request: Request,
     input: &[u8],
     steps: &mut Steps,
 ) -> Result<Answer, Refusal>
-    requires range { IsInRange command }
-    requires accepted { IsAccepted (reads command) input.now }
+    requires range { IsInRange (command_of request) }
+    requires accepted { IsAccepted (reads (command_of request)) input.now }
     ensures ok { IfOk result (λ answer.
-        AnswerOf command input.now (Writes (bytes_of_answer answer))) }
+        AnswerOf request input.now (Writes (bytes_of_answer answer))) }
     ensures refused { IfErr result (λ refusal. (refusal ≡ Refusal.NoMemory)
-        ⊎ ((step_of refusal ≡ answering) × AnswerOf command input.now (Refuses refusal))) }
+        ⊎ ((step_of refusal ≡ answering) × AnswerOf request input.now (Refuses refusal))) }
 {
-    match command {
-        Command::Bits { rate, seed } => {
+    match request {
+        Request::Bits { rate, seed } => {
             Ok(Answer::Bytes(stage_text(alloc, Stage::Kept, rate, seed, input)?))
         }
-        Command::Decode { rate, length } => decoded(alloc, rate, length, input, steps),
-        Command::Send { rate, seed } => {
+        Request::Decode { rate, length } => decoded(alloc, rate, length, input, steps),
+        Request::Send { rate, seed } => {
             Ok(Answer::Samples(frame_samples(alloc, rate, seed, input)?))
         }
-        Command::Noise { script } => Ok(Answer::Samples(noisy_samples(alloc, &script, input)?)),
-        Command::Show { stage, rate, seed } => {
+        Request::Noise { script } => Ok(Answer::Samples(noisy_samples(alloc, &script, input)?)),
+        Request::Show { stage, rate, seed } => {
             Ok(Answer::Bytes(stage_text(alloc, stage, rate, seed, input)?))
         }
     }

@@ -3,10 +3,11 @@ ghost use Rattle.std.specs.Prelude.{◌≡◌, ◌⊎◌, ◌%◌, ◌≤◌, le
 ghost use Rattle.std.specs.Result.{result_err};
 ghost use Rattle.capture_files.specs.Captures.{IsTorn};
 ghost use Rattle.command_answers.specs.Inputs.{IsAccepted, IsInput, Reads, RefusesInput, reads, refusal_of_fault};
+ghost use Rattle.command_words.specs.Asking.{command_of};
 ghost use Rattle.modem_ports.specs.Limits.{most_input};
 ghost use Rattle.report_lines.specs.Refusals.{IsDecided, reading, status_of, step_of};
 
-use command_words::Command;
+use command_words::Request;
 use modem_ports::{MOST_INPUT, ReadAllFault, Source, read_all};
 use rate_table::MOST_OCTETS;
 use report_lines::Refusal;
@@ -26,14 +27,14 @@ pub enum Reading {
 }
 
 impl Reading {
-    /// What a command reads (own). Takes no memory.
-    pub fn of(command: &Command) -> Reading
-        ensures { result ≡ reads command.now }
+    /// What is read for a request (own). Takes no memory.
+    pub fn of(request: &Request) -> Reading
+        ensures { result ≡ reads (command_of request.now) }
     {
-        match command {
-            Command::Bits { .. } | Command::Send { .. } | Command::Show { .. } => Reading::Psdu,
-            Command::Decode { .. } => Reading::Bytes,
-            Command::Noise { .. } => Reading::Capture,
+        match request {
+            Request::Bits { .. } | Request::Send { .. } | Request::Show { .. } => Reading::Psdu,
+            Request::Decode { .. } => Reading::Bytes,
+            Request::Noise { .. } => Reading::Capture,
         }
     }
 }

@@ -1,3 +1,3 @@
 mod Absent
 pub mod Reading
-pub mod Refusing
+pub mod Asked

@@ -1,13 +1,16 @@
-//! The words of the command line, and the commands that they say. No call takes memory.
+//! The words of the command line, the commands that they say, and what they ask for. No call takes
+//! memory.
 #![tactic(auto)]
 
 use noise_script::Script;
 use ofdm_scrambler::Seed;
 use rate_table::Rate;
 
+mod asking;
 mod numbers;
 mod words;
 
+pub use asking::read_request;
 pub use words::read_words;
 
 /// A stage of the transmitter, whose text `show` writes (own).
@@ -29,8 +32,8 @@ pub enum Stage {
     Samples,
 }
 
-/// What the words ask for (own).
-#[derive(Drop)]
+/// A command, as its words say it (own).
+#[derive(Clone, Copy, Debug, PartialEq, Eq)]
 pub enum Command {
     /// `bits RATE SEED`
     Bits {
@@ -47,11 +50,39 @@ pub enum Command {
         rate: Rate,
         seed: Seed,
     },
-    /// `noise SCRIPT`
+    /// `noise SCRIPT`, whatever the text is that stands for the script.
+    Noise,
+    /// `show STAGE RATE SEED`
+    Show {
+        stage: Stage,
+        rate: Rate,
+        seed: Seed,
+    },
+}
+
+/// What the words ask for: a command, with what its text says (own).
+#[derive(Drop)]
+pub enum Request {
+    /// The kept code of a PSDU's field.
+    Bits {
+        rate: Rate,
+        seed: Seed,
+    },
+    /// The PSDU of the field that is nearest to a text of bits.
+    Decode {
+        rate: Rate,
+        length: u16,
+    },
+    /// The samples of a PSDU's frame.
+    Send {
+        rate: Rate,
+        seed: Seed,
+    },
+    /// The samples of a capture after a script.
     Noise {
         script: Script,
     },
-    /// `show STAGE RATE SEED`
+    /// The text of a stage.
     Show {
         stage: Stage,
         rate: Rate,

@@ -1,51 +1,35 @@
 //! Reading of the words.
-ghost use Rattle.std.specs.Prelude.{◌≡◌, [], ◌∷◌, IfOk, IfErr, IfSome, IfNone, OnErr};
-ghost use Rattle.command_words.specs.Grammar.{AreRefusedFor, NamesNoStage, Say, SayNothing, stage_word, texts_of};
+ghost use Rattle.std.specs.Prelude.{◌≡◌, [], ◌∷◌, IfSome, IfNone};
+ghost use Rattle.command_words.specs.Grammar.{NamesNoStage, Say, SayNothing, stage_word, texts_of};
 
 use crate::numbers::{read_length, read_rate, read_seed};
 use crate::{Command, Stage};
-use noise_script::laws::places_of_scripts;
-use noise_script::{Script, ScriptFault};
-use report_lines::Refusal;
 
-/// The command that the words say, without the program's name (own), or why they say none. Any one
-/// word behind `noise` is taken for a script: `BadScript` comes exactly where it is none, with the
-/// place where it is bad, and `Words` for all other words that say no command. RATE is a number of
-/// megabits a second, 6 to 54 by the table of the rates, SEED is from 1 to 127 and LENGTH from 1 to
-/// 4095, all in decimal digits with no sign and no leading zero; a stage is `scrambled`, `coded`,
-/// `kept`, `interleaved`, `points`, `header` or `samples`. Takes no memory.
-pub fn read_words(words: &Vec<String>) -> Result<Command, Refusal>
-    ensures command { IfOk result (Say (texts_of words.now)) }
-    ensures none { OnErr result (SayNothing (texts_of words.now)) }
-    ensures refused { IfErr result (AreRefusedFor (texts_of words.now)) }
+/// The command that the words say, without the program's name (own): None exactly where they say
+/// none. RATE is a number of megabits a second, 6 to 54 by the table of the rates, SEED is from 1 to
+/// 127 and LENGTH from 1 to 4095, all in decimal digits with no sign and no leading zero; SCRIPT is any
+/// one word, which `read_request` reads; a stage is `scrambled`, `coded`, `kept`, `interleaved`,
+/// `points`, `header` or `samples`. Takes no memory.
+pub fn read_words(words: &Vec<String>) -> Option<Command>
+    ensures command { IfSome result (Say (texts_of words.now)) }
+    ensures none { IfNone result (SayNothing (texts_of words.now)) }
 {
     match words.as_slice() {
         [name, text] => read_two(name.as_str(), text.as_str()),
-        [name, a, b] => match read_three(name.as_str(), a.as_str(), b.as_str()) {
-            Some(command) => Ok(command),
-            None => Err(Refusal::Words),
-        },
-        [name, a, b, c] => match read_four(name.as_str(), a.as_str(), b.as_str(), c.as_str()) {
-            Some(command) => Ok(command),
-            None => Err(Refusal::Words),
-        },
-        _ => Err(Refusal::Words),
+        [name, a, b] => read_three(name.as_str(), a.as_str(), b.as_str()),
+        [name, a, b, c] => read_four(name.as_str(), a.as_str(), b.as_str(), c.as_str()),
+        _ => None,
     }
 }
 
-// The command of two words.
-fn read_two(name: &str, text: &str) -> Result<Command, Refusal>
-    ensures command { IfOk result (Say (name.now ∷ text.now ∷ [])) }
-    ensures none { OnErr result (SayNothing (name.now ∷ text.now ∷ [])) }
-    ensures refused { IfErr result (AreRefusedFor (name.now ∷ text.now ∷ [])) }
+// The command of two words, whatever the second is.
+fn read_two(name: &str, _text: &str) -> Option<Command>
+    ensures command { IfSome result (Say (name.now ∷ _text.now ∷ [])) }
+    ensures none { IfNone result (SayNothing (name.now ∷ _text.now ∷ [])) }
 {
-    places_of_scripts();
     match name {
-        "noise" => match Script::read(text) {
-            Ok(script) => Ok(Command::Noise { script }),
-            Err(ScriptFault::BadScript { at }) => Err(Refusal::BadScript { at }),
-        },
-        _ => Err(Refusal::Words),
+        "noise" => Some(Command::Noise),
+        _ => None,
     }
 }
 

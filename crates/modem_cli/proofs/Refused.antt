@@ -1,7 +1,8 @@
 -- What a refusal says of the outcome and of the status.
-use Rattle.std.proofs.Common.{◌≡◌, ◌⊎◌, inl, inr, ℕ, List, Option, Some, None, refl, ap, ◌∙◌, subst}
+use Rattle.std.proofs.Common.{◌≡◌, ◌⊎◌, inl, inr, ℕ, List, [], Option, Some, None, refl, ap, ◌∙◌, subst, arith}
 use Rattle.std.specs.Option.{IfSome}
-use Rattle.report_lines.proofs.ByKind.{kinds, of_asking, of_words}
+use Rattle.modem_ports.specs.Told.{Gives}
+use Rattle.report_lines.proofs.ByKind.{kinds, of_asking, of_words as by_status}
 use Rattle.report_lines.specs.declared.Refusal.{Refusal}
 use Rattle.report_lines.specs.declared.Refusal.TheVariants.{NoMemory, ReadFault, WriteFault}
 use Rattle.report_lines.specs.declared.Status.{Status}
@@ -9,20 +10,25 @@ use Rattle.report_lines.specs.declared.Status.TheVariants as status
 use Rattle.report_lines.specs.Refusals.{IsDecided, asking, status_of, step_of}
 use Rattle.command_words.specs.declared.Command.{Command}
 use Rattle.command_words.proofs.Reading.{one_command}
-use Rattle.command_words.proofs.Refusing.{refused_at}
-use Rattle.command_words.specs.Grammar.{AreRefusedFor, Say, SayNothing}
-use Rattle.command_answers.proofs.Outcomes.{nothing_said}
+use Rattle.command_words.proofs.Asked.{nothing_asked, refused_at}
+use Rattle.command_words.specs.declared.Request.{Request}
+use Rattle.command_words.specs.Asking.{AreRefusedFor, AskFor, AskForNothing, command_of}
+use Rattle.command_words.specs.Grammar.{Say}
+use Rattle.command_answers.proofs.Outcomes.{words_are_refused}
 use Rattle.command_answers.specs.declared.reading.Reading.{Reading}
 use Rattle.command_answers.specs.InOrder.{Outcome, Refuses, Writes}
 use Rattle.command_answers.specs.Inputs.{Reads, reads}
 use Rattle.command_answers.specs.Laws.{OneOutcome}
-use Rattle.command_answers.specs.Outcome.{AreRefused, HasOutcome, IsOutcome, MayFollow, RefusesWords, of_command, of_no_command}
+use Rattle.command_answers.specs.Outcome.{AreRefused, HasOutcome, IsOutcome, MayFollow, RefusesWords, of_request, of_words}
 use Rattle.modem_cli.specs.Report.{TakesAnswer, TakesAnswerPrefix}
 
 -- a refusal with the status of bad words is theirs
-pub refuses_words : (words : List (List ℕ)) (refusal : Refusal) → (step_of refusal ≡ asking → SayNothing words) → (step_of refusal ≡ asking → AreRefusedFor words refusal)
-    → status_of refusal ≡ status.BadWords → RefusesWords words refusal
-refuses_words words refusal none why is = let asks = of_words refusal is in (is, λ bytes. of_no_command (none asks) refusal (why asks) refl)
+pub refuses_words : (words : List (List ℕ)) (refusal : Refusal) → (step_of refusal ≡ asking → AreRefusedFor words refusal) → status_of refusal ≡ status.BadWords → RefusesWords words refusal
+refuses_words words refusal why is = (is, λ bytes. of_words refusal (why (by_status refusal is)) refl)
+
+-- words that are refused ask for nothing
+pub refused_ask_nothing : (words : List (List ℕ)) → AreRefused words → AskForNothing words
+refused_ask_nothing words refused = let why = words_are_refused words refused in nothing_asked words why.0 why.1
 
 -- what a command that finds no answer is refused for, where it isn't want of memory
 pub of_answering : (refusal : Refusal) (At Has : Type 0) → (refusal ≡ NoMemory) ⊎ (At × Has) → IsDecided (status_of refusal) → Has
@@ -30,16 +36,33 @@ of_answering refusal At Has (inl want) decided = absurd (subst (λ r. IsDecided 
 of_answering refusal At Has (inr (at, has)) decided = has
 
 -- what a call that reads leaves of the source, for any command that the words say
-pub reads_of_said : (words : List (List ℕ)) (said command : Command) (kind : Reading) (before after : Option (List ℕ)) (faults faults' : ℕ) (refused : Option Refusal) → kind ≡ reads said
-    → Say words said → Say words command → Reads kind before after faults faults' refused → Reads (reads command) before after faults faults' refused
-reads_of_said words said command kind before after faults faults' refused is says says' has =
-    subst (λ k. Reads k before after faults faults' refused) (is ∙ ap reads (one_command words said command says says')) has
+pub reads_of_said : (words : List (List ℕ)) (request : Request) (command : Command) (kind : Reading) (before after : Option (List ℕ)) (faults faults' : ℕ) (refused : Option Refusal)
+    → kind ≡ reads (command_of request) → AskFor words request → Say words command → Reads kind before after faults faults' refused → Reads (reads command) before after faults faults' refused
+reads_of_said words request command kind before after faults faults' refused is asks says has =
+    subst (λ k. Reads k before after faults faults' refused) (is ∙ ap reads (one_command words (command_of request) command asks.said says)) has
+
+-- a source that isn't read gave nothing
+gives_nothing : (left : Option (List ℕ)) → Gives left [] left
+gives_nothing None = tt
+gives_nothing (Some bytes) = refl
+
+-- .. which is what is read for words that are refused
+pub reads_nothing : (words : List (List ℕ)) (refusal : Refusal) (kind : Reading) (left : Option (List ℕ)) (faults : ℕ) → AreRefusedFor words refusal → Reads kind left left faults faults (Some refusal)
+reads_nothing words refusal kind left faults why =
+    let at = refused_at words refusal why in
+    record {
+      end = elim [ inl answers ↦ cc | inr writes ↦ cc ];
+      at_most = ([], omega arith, gives_nothing left);
+      to_limit = λ is. cc;
+      to_input_limit = λ is. cc;
+      fault = λ is. cc;
+      fault_within = λ is. cc;
+    }
 
 -- the status of bad words comes exactly where they are refused
-pub bad_words : (words : List (List ℕ)) (refusal : Refusal) → (step_of refusal ≡ asking → SayNothing words) → (step_of refusal ≡ asking → AreRefusedFor words refusal)
-    → (SayNothing words → step_of refusal ≡ asking) → (status_of refusal ≡ status.BadWords → AreRefused words) × (AreRefused words → status_of refusal ≡ status.BadWords)
-bad_words words refusal none why if =
-    (λ is. (refusal, refuses_words words refusal none why is), λ refused. of_asking refusal (if (nothing_said words refused)))
+pub bad_words : (words : List (List ℕ)) (refusal : Refusal) → (step_of refusal ≡ asking → AreRefusedFor words refusal) → (AskForNothing words → step_of refusal ≡ asking)
+    → (status_of refusal ≡ status.BadWords → AreRefused words) × (AreRefused words → status_of refusal ≡ status.BadWords)
+bad_words words refusal why if = (λ is. (refusal, refuses_words words refusal why is), λ refused. of_asking refusal (if (refused_ask_nothing words refused)))
 
 -- the statuses of a failed read and of want of memory may follow any outcome
 read_fault_follows : (outcome : Outcome) → MayFollow outcome status.ReadFault
@@ -137,6 +160,6 @@ module _ (one : OneOutcome) where
       let same = one words bytes (Refuses refusal) (Refuses other) (decided is) has in
       let refusal_is : refusal ≡ other = cc in
       elim has [
-        | of_command command says of_it ↦ given refusal_is command says
-        | of_no_command none cause why is_it ↦ absurd (no_word (let same_cause : other ≡ cause = cc in rw same_cause (refused_at words cause why)))
+        | of_request request asks of_it ↦ given refusal_is (command_of request) asks.said
+        | of_words cause why is_it ↦ absurd (no_word (let same_cause : other ≡ cause = cc in rw same_cause (refused_at words cause why)))
       ]

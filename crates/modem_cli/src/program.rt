@@ -6,7 +6,8 @@ ghost use Rattle.command_answers.specs.InOrder.{Outcome, Refuses, Writes};
 ghost use Rattle.command_answers.specs.Inputs.{Reads, reads};
 ghost use Rattle.command_answers.specs.Outcome.{AreRefused, HasOutcome, IsOutcome, MayFollow, ReadsInput, most_accepted, most_taken};
 ghost use Rattle.command_words.specs.declared.Command.{Command};
-ghost use Rattle.command_words.specs.Grammar.{AreRefusedFor, Say, SayNothing, texts_of};
+ghost use Rattle.command_words.specs.Asking.{AreRefusedFor, AskForNothing};
+ghost use Rattle.command_words.specs.Grammar.{Say, texts_of};
 ghost use Rattle.modem_cli.specs.Report.{IsReported, IsWrittenUnlessNoMemory, TakesAnswer, TakesAnswerPrefix, TakesReport};
 ghost use Rattle.modem_ports.specs.Counts.{Rose};
 ghost use Rattle.modem_ports.specs.Limits.{most_input};
@@ -17,7 +18,7 @@ ghost use Rattle.report_lines.specs.Refusals.{IsDecided, asking, status_of, step
 
 use command_answers::laws::{flipped_text_gives_its_psdu, outcome_is_one};
 use command_answers::{Reading, answer_of, read_input, write_answer};
-use command_words::read_words;
+use command_words::read_request;
 use modem_ports::{Sink, Source, Steps, write_all};
 use report_lines::{Refusal, Status, line_of};
 use std::alloc::Global;
@@ -137,8 +138,8 @@ fn execute<S: Source, K: Sink>(
         (K.taken out.old) (K.taken out.new) }
     ensures outcome { IfErr result (λ refusal. IsDecided (status_of refusal)
         → IsOutcome (texts_of words.now) (S.left source.old) (Refuses refusal)) }
-    ensures words { SayNothing (texts_of words.now)
-        ↔ IsErrAnd result (λ refusal. step_of refusal ≡ asking) }
+    ensures words { AskForNothing (texts_of words.now)
+        → IsErrAnd result (λ refusal. step_of refusal ≡ asking) }
     ensures cause { IfErr result (λ refusal. step_of refusal ≡ asking
         → AreRefusedFor (texts_of words.now) refusal) }
     ensures source_untouched { IfErr result (λ refusal. step_of refusal ≡ asking
@@ -155,9 +156,9 @@ fn execute<S: Source, K: Sink>(
     ensures source_counted { S.faults source.old ≤ S.faults source.new }
     ensures out_counted { K.faults out.old ≤ K.faults out.new }
 {
-    let command = read_words(words)?;
-    let input = read_input(alloc, Reading::of(&command), source)?;
-    let answer = answer_of(alloc, command, &input, steps)?;
+    let request = read_request(words)?;
+    let input = read_input(alloc, Reading::of(&request), source)?;
+    let answer = answer_of(alloc, request, &input, steps)?;
     match write_answer(&answer, out) {
         Ok(()) => Ok(()),
         Err(_) => Err(Refusal::WriteFault),

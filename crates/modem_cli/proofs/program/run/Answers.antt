@@ -6,15 +6,14 @@ use Rattle.rate_table.specs.Symbols.{most_octets}
 use Rattle.report_lines.specs.declared.Refusal.TheVariants.{LongCapture, LongPsdu}
 use Rattle.report_lines.specs.declared.Status.TheVariants as status
 use Rattle.report_lines.specs.Refusals.{status_of}
-use Rattle.command_answers.proofs.Outcomes.{nothing_said}
 use Rattle.command_words.specs.Grammar.{texts_of}
 use Rattle.report_lines.proofs.ByKind.{no_refusal_is_ok}
-use Rattle.modem_cli.proofs.Refused.{answered_follows, answered_refuses, bad_words, refused_answers, refused_follows, refused_refuses, refuses_words, where_refused}
+use Rattle.modem_cli.proofs.Refused.{answered_follows, answered_refuses, bad_words, refused_answers, refused_ask_nothing, refused_follows, refused_refuses, refuses_words, where_refused}
 use Rattle.modem_cli.proofs.Written.{repaired_where_answered, repaired_where_refused}
 use Rattle.modem_cli.proofs.program.run.Goals as goal
 
 pub returns-in-Ok-clause-bad_words : goal.returns-in-Ok-clause-bad_words
-returns-in-Ok-clause-bad_words g c = (λ is. cc, λ refused. absurd (c.in-Ok.ensures.words.0 (nothing_said _ refused)))
+returns-in-Ok-clause-bad_words g c = (λ is. cc, λ refused. absurd (c.in-Ok.ensures.words (refused_ask_nothing _ refused)))
 
 pub returns-in-Ok-clause-refuses : goal.returns-in-Ok-clause-refuses
 returns-in-Ok-clause-refuses g c = λ unread.
@@ -24,7 +23,7 @@ pub returns-in-Err-clause-reported : goal.returns-in-Err-clause-reported
 returns-in-Err-clause-reported g c = λ failed. record {
   refusal = c.in-Err.refusal;
   has_status = cc;
-  of_words = λ is. refuses_words (texts_of c.args.words.now) c.in-Err.refusal c.in-Err.ensures.words.1 c.in-Err.ensures.cause (rw c.refuse.ensures.status at is);
+  of_words = λ is. refuses_words (texts_of c.args.words.now) c.in-Err.refusal c.in-Err.ensures.cause (rw c.refuse.ensures.status at is);
   of_input = λ decided. c.in-Err.ensures.outcome (rw c.refuse.ensures.status at decided);
   is_taken = c.refuse.ensures.reported;
 }
@@ -32,7 +31,7 @@ returns-in-Err-clause-reported g c = λ failed. record {
 pub returns-in-Err-clause-bad_words : goal.returns-in-Err-clause-bad_words
 returns-in-Err-clause-bad_words g c =
     rw c.refuse.ensures.status (bad_words (texts_of c.args.words.now) c.in-Err.refusal
-    c.in-Err.ensures.words.1 c.in-Err.ensures.cause c.in-Err.ensures.words.0)
+    c.in-Err.ensures.cause c.in-Err.ensures.words)
 
 pub returns-in-Err-clause-answers : goal.returns-in-Err-clause-answers
 returns-in-Err-clause-answers g c = λ unread unwritten.
