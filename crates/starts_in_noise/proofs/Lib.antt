@@ -1,0 +1,4 @@
+pub mod Alike
+pub mod Template
+pub mod Loud
+pub mod Lengths
