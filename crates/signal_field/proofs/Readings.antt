@@ -1,11 +1,10 @@
 -- Decisions are read as one header or fault, and the bits of a header say it.
 use Rattle.std.proofs.Common.{◌≡◌, length, refl, sym, ap, ◌∙◌, arith}
-use Rattle.std.specs.Prelude.{Result}
 use Rattle.std.proofs.lemmas.List.FromFn.{length-map-range_with_len}
 use Rattle.rate_table.specs.declared.CodeRate.TheVariants.{Half}
 use Rattle.viterbi_lanes.specs.Decisions.{marks_at, marks_of}
 use Rattle.viterbi_lanes.proofs.Nearest.{one_nearest_to, some_nearest_to}
-use Rattle.signal_field.specs.Headers.{IsReadAs, header_in}
+use Rattle.signal_field.specs.Headers.{header_in}
 use Rattle.signal_field.specs.Laws.{OneReading, SomeReading}
 
 pub some_reading : SomeReading

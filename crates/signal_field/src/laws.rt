@@ -2,7 +2,7 @@
 
 ghost use Rattle.std.specs.Prelude.{◌≡◌, ◌%◌, ◌^◌, ◌<◌, ℕ, sum, take};
 ghost use Rattle.rate_table.specs.declared.Rate.{Rate};
-ghost use Rattle.signal_field.specs.Laws.{OneReading, SomeReading};
+ghost use Rattle.signal_field.specs.Laws.{BitsSayHeader, OneReading, SomeReading};
 ghost use Rattle.signal_field.specs.Signal.{header_bits_of};
 
 /// The sum of bits 0 to 17 is even (18.3.4.4).
@@ -17,6 +17,11 @@ pub fn bits_determine_header()
         → length' < 2 ^ 12
         → header_bits_of rate length reserved ≡ header_bits_of rate' length' reserved'
         → (rate ≡ rate') × (length ≡ length') × (reserved ≡ reserved') }
+{}
+
+/// The bits of a header say it (18.3.4).
+pub fn bits_say_header()
+    ensures { BitsSayHeader }
 {}
 
 /// Decisions are read as exactly one header or fault (own).

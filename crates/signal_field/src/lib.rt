@@ -1,14 +1,20 @@
 //! The SIGNAL field (IEEE Std 802.11-2012, 18.3.4). No call takes memory.
 #![tactic(auto)]
 
-ghost use Rattle.std.specs.Prelude.{◌≡◌, ◌%◌, ◌<◌, ◌≤◌, length, sum, take};
+ghost use Rattle.std.specs.Prelude.{◌≡◌, ◌%◌, ◌<◌, ◌≤◌, ◌^◌, [], length, sum, take, IfOk};
 ghost use Rattle.bit_lists.specs.Bits.{AreBits, IsBit};
 ghost use Rattle.conv_code.specs.Code.{code_of};
+ghost use Rattle.modem_ports.specs.Counts.{raised_by};
 ghost use Rattle.rate_table.specs.Symbols.{IsLength};
+ghost use Rattle.signal_field.specs.Headers.{IsReadAs, header_in, number_of_bits};
 ghost use Rattle.signal_field.specs.Signal.{bits_of_number, even_parity, front_bits_of, header_bits_of};
+ghost use Rattle.survivor_memory.specs.Survivors.{AreEntries};
+ghost use Rattle.viterbi_lanes.specs.Marks.{StandsFor};
 
 use conv_code::{branch, next_state};
-use rate_table::Rate;
+use modem_ports::Steps;
+use rate_table::{CodeRate, Rate};
+use viterbi_lanes::Trellis;
 
 pub mod laws;
 
@@ -71,6 +77,70 @@ pub fn header_code(header: &Header) -> [u8; 48]
     code
 }
 
+/// Reads a header from the 48 decisions of the SIGNAL symbol, in code order: the nearest list of 24 bits says it, or the
+/// first fault in the order of `HeaderFault` (18.3.4; the nearest list and the faults are own). Rate, LENGTH, 1 to 4095,
+/// and the reserved bit are those of the list. The trellis has room for 24 steps at least; what it held is emptied first,
+/// and it holds nothing afterwards. The count of steps rises by exactly 24. Takes no memory.
+pub fn read_header(
+    trellis: &mut Trellis,
+    decisions: &[u8; 48],
+    steps: &mut Steps,
+) -> Result<Header, HeaderFault>
+    requires room { 24 ≤ trellis.old.room }
+    ensures read { IsReadAs decisions.now result }
+    ensures octets { IfOk result (λ header. IsLength header.length) }
+    ensures reserved { IfOk result (λ header. IsBit header.reserved) }
+    ensures stands { StandsFor trellis.new [] }
+    ensures entries { AreEntries trellis.new.entries }
+    ensures room { trellis.new.room ≡ trellis.old.room }
+    ensures counted { steps.new ≡ raised_by 24 steps.old }
+{
+    let mut bits = [0; 24];
+    trellis.start();
+    trellis.feed(CodeRate::Half, decisions, 24, steps);
+    trellis.finish(&mut bits);
+    header_of_bits(&bits)
+}
+
+// The header that 24 bits say.
+fn header_of_bits(bits: &[u8; 24]) -> Result<Header, HeaderFault>
+    requires { AreBits bits.now }
+    ensures says { result ≡ header_in bits.now }
+    ensures octets { IfOk result (λ header. IsLength header.length) }
+    ensures reserved { IfOk result (λ header. IsBit header.reserved) }
+{
+    if parity(&bits[..18]) == 1 {
+        return Err(HeaderFault::BadParity);
+    }
+    let pattern = number(&bits[..4]) as u8;
+    let Some(rate) = Rate::from_pattern(pattern) else {
+        return Err(HeaderFault::BadRate { pattern });
+    };
+    let length = number(&bits[5..17]);
+    if length == 0 {
+        return Err(HeaderFault::ZeroLength);
+    }
+    Ok(Header {
+        rate,
+        length,
+        reserved: bits[4],
+    })
+}
+
+// The number of at most 15 bits, the least significant first.
+fn number(bits: &[u8]) -> u16
+    requires few { length bits.now ≤ 15 }
+    requires bits { AreBits bits.now }
+    ensures value { result ≡ number_of_bits bits.now }
+    ensures below { result < 2 ^ length bits.now }
+{
+    let mut number = 0;
+    for k in (0..bits.len()).rev() {
+        number = 2 * number + u16::from(bits[k]);
+    }
+    number
+}
+
 // Bits 0 to 16 of a header.
 fn front_bits(header: &Header) -> [u8; 17]
     requires { IsBit header.now.reserved }
@@ -107,47 +177,4 @@ fn parity(bits: &[u8]) -> u8
 }
 
 #[cfg(test)]
-mod tests {
-    use super::*;
-
-    // Frames of 100 octets at 36 Mb/s, with either reserved bit.
-    #[test]
-    fn bits_of_a_frame(rt: HostRuntime) {
-        let cases = [
-            (
-                0,
-                [
-                    1, 0, 1, 1, 0, 0, 0, 1, 0, 0, 1, 1, 0, 0, 0, 0, 0, 0, 0, 0, 0, 0, 0, 0,
-                ],
-            ),
-            (
-                1,
-                [
-                    1, 0, 1, 1, 1, 0, 0, 1, 0, 0, 1, 1, 0, 0, 0, 0, 0, 1, 0, 0, 0, 0, 0, 0,
-                ],
-            ),
-        ];
-        for (reserved, bits) in cases {
-            let header = Header {
-                rate: Rate::R36,
-                length: 100,
-                reserved,
-            };
-            assert!(rt; header_bits(&header) == bits, "reserved bit {reserved}");
-        }
-    }
-
-    #[test]
-    fn code_of_a_frame(rt: HostRuntime) {
-        let header = Header {
-            rate: Rate::R36,
-            length: 100,
-            reserved: 0,
-        };
-        let code = [
-            1, 1, 0, 1, 0, 0, 0, 1, 1, 0, 1, 0, 0, 0, 0, 1, 0, 0, 0, 0, 0, 0, 1, 0, 0, 0, 1, 1, 1,
-            1, 1, 0, 0, 1, 1, 1, 0, 0, 0, 0, 0, 0, 0, 0, 0, 0, 0, 0,
-        ];
-        assert!(rt; header_code(&header) == code);
-    }
-}
+mod tests;
