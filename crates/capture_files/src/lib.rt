@@ -17,8 +17,11 @@ use std::alloc::{AllocError, Global};
 use thiserror::Error;
 
 pub mod laws;
+mod piecer;
 #[cfg(test)]
 mod tests;
+
+pub use piecer::Piecer;
 
 // The bytes of a sample.
 const SAMPLE: usize = 4;

@@ -1,4 +1,4 @@
-use crate::{CaptureFault, read_capture, write_samples};
+use crate::{CaptureFault, Piecer, read_capture, write_samples};
 use fixed_complex::Sample;
 use modem_ports::{Failed, MemSink, MemSource};
 use std::test::Fail;
@@ -77,4 +77,15 @@ fn in_pieces(rt: HostRuntime) -> Result<(), Fail> {
         assert_eq!(rt; sink.taken().len(), taken, "call {call}");
     }
     Ok(())
+}
+
+#[test]
+fn samples_as_bytes_come(rt: HostRuntime) {
+    let mut piecer = Piecer::new();
+    for (byte, rest) in [(0x05, 1), (0x00, 2), (0xF9, 3)] {
+        assert_eq!(rt; piecer.feed(byte), None);
+        assert_eq!(rt; piecer.rest(), rest);
+    }
+    assert_eq!(rt; piecer.feed(0xFF), Some(Sample { i: 5, q: -7 }));
+    assert_eq!(rt; piecer.rest(), 0);
 }

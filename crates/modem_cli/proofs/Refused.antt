@@ -1,6 +1,7 @@
 -- What a refusal says of the outcome and of the status.
 use Rattle.std.proofs.Common.{◌≡◌, ◌⊎◌, inl, inr, ℕ, List, [], Option, Some, None, refl, ap, ◌∙◌, subst, arith}
 use Rattle.std.specs.Option.{IfSome}
+use Rattle.modem_ports.specs.Counts.{Rose}
 use Rattle.modem_ports.specs.Told.{Gives}
 use Rattle.report_lines.proofs.ByKind.{kinds, of_asking, of_words as by_status}
 use Rattle.report_lines.specs.declared.Refusal.{Refusal}
@@ -40,6 +41,10 @@ pub reads_of_said : (words : List (List ℕ)) (request : Request) (command : Com
     → kind ≡ reads (command_of request) → AskFor words request → Say words command → Reads kind before after faults faults' refused → Reads (reads command) before after faults faults' refused
 reads_of_said words request command kind before after faults faults' refused is asks says has =
     subst (λ k. Reads k before after faults faults' refused) (is ∙ ap reads (one_command words (command_of request) command asks.said says)) has
+
+-- the count of a port that never fails is always 0, and never rose
+pub never_rose : ¬ Rose 0 0
+never_rose rose = elim rose [ inl more ↦ omega (arith, more) | inr end ↦ omega (arith, end) ]
 
 -- a source that isn't read gave nothing
 gives_nothing : (left : Option (List ℕ)) → Gives left [] left

@@ -14,7 +14,7 @@ mod tests;
 
 pub use command_words::read_words;
 pub use frame_stages::stage_text;
-pub use program::run;
+pub use program::{dry_run, run};
 
 // The code where the words of the command line can't be had for another cause than want of memory:
 // that of no status.

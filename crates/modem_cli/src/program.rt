@@ -19,7 +19,7 @@ ghost use Rattle.report_lines.specs.Refusals.{IsDecided, asking, status_of, step
 use command_answers::laws::{flipped_text_gives_its_psdu, outcome_is_one};
 use command_answers::{Reading, answer_of, read_input, write_answer};
 use command_words::read_request;
-use modem_ports::{Sink, Source, Steps, write_all};
+use modem_ports::{Discard, NeverFails, Sink, Source, Steps, write_all};
 use report_lines::{Refusal, Status, line_of};
 use std::alloc::Global;
 
@@ -108,6 +108,25 @@ pub fn run<S: Source, K: Sink, E: Sink>(
         Ok(()) => Status::Ok,
         Err(refusal) => refuse(report, refusal),
     }
+}
+
+/// One run over ports that never fail, whose answer is dropped (own): as the outcome decides, or for want
+/// of memory, and for no other cause.
+pub fn dry_run<E: Sink>(
+    alloc: Global,
+    words: &Vec<String>,
+    source: &mut NeverFails,
+    report: &mut E,
+    steps: &mut Steps,
+) -> Status
+    ensures answers { (answer : List ℕ)
+        → HasOutcome (texts_of words.now) source.old (Writes answer)
+        → (result ≡ Status.Ok) ⊎ (result ≡ Status.NoMemory) }
+    ensures refuses { (refusal : Refusal)
+        → HasOutcome (texts_of words.now) source.old (Refuses refusal)
+        → (result ≡ status_of refusal) ⊎ (result ≡ Status.NoMemory) }
+{
+    run(alloc, words, source, &mut Discard::new(), report, steps)
 }
 
 // Reports a refusal, and answers its status. Where the report can't be written, the status is the

@@ -1,6 +1,6 @@
 //! Runs over ports in memory, with the rows of the commands.
-use crate::run;
-use modem_ports::{MemSink, MemSource, Steps};
+use crate::{dry_run, run};
+use modem_ports::{Discard, MemSink, MemSource, NeverFails, Sink, Source, Steps, ZeroSource};
 use report_lines::Status;
 use std::alloc::{AllocError, Global};
 use std::process::Abort;
@@ -87,11 +87,11 @@ fn words_of(alloc: Global, line: &str) -> Result<Vec<String>, AllocError> {
 }
 
 // Runs a command line over a source and a sink, and gives the status and what was reported.
-fn run_line(
+fn run_line<S: Source, K: Sink>(
     alloc: Global,
     line: &str,
-    source: &mut MemSource,
-    out: &mut MemSink,
+    source: &mut S,
+    out: &mut K,
 ) -> Result<(Status, Vec<u8>), AllocError> {
     let words = words_of(alloc, line)?;
     let mut report = MemSink::open(alloc, 80, 80, &[])?;
@@ -520,5 +520,53 @@ fn keeps_the_status_where_the_report_fails(rt: HostRuntime) -> Result<(), Fail> 
     assert!(rt; status == Status::BadWords);
     assert!(rt; report.taken() == b"error 1:".as_slice());
     assert_eq!(rt; steps.count(), 0);
+    Ok(())
+}
+
+// The source never ends, so only its limit ends the reading.
+#[test]
+fn refuses_endless_inputs(rt: HostRuntime) -> Result<(), Fail> {
+    let rows = [
+        ("bits 6 93", "error 3: psdu over 4095 octets\n"),
+        ("decode 6 1", "error 5: input over 67108864 bytes\n"),
+    ];
+    for (line, report) in rows {
+        let ran = run_line(
+            rt.alloc(),
+            line,
+            &mut ZeroSource::new(),
+            &mut Discard::new(),
+        )?;
+        assert!(rt; ran.0 == Status::BadInput, "status of {line}");
+        assert!(rt; ran.1.as_slice() == report.as_bytes(), "report of {line}");
+    }
+    Ok(())
+}
+
+#[test]
+fn decodes_over_ports_that_never_fail(rt: HostRuntime) -> Result<(), Fail> {
+    let words = words_of(rt.alloc(), "decode 6 1")?;
+    let mut steps = Steps::new();
+    let mut source = NeverFails::open(rt.alloc(), KEPT)?;
+    let mut out = MemSink::open(rt.alloc(), 10, 10, &[])?;
+    let status = run(
+        rt.alloc(),
+        &words,
+        &mut source,
+        &mut out,
+        &mut Discard::new(),
+        &mut steps,
+    );
+    assert!(rt; status == Status::Ok);
+    assert_eq!(rt; out.taken(), [0].as_slice());
+    let mut again = NeverFails::open(rt.alloc(), KEPT)?;
+    let ended = dry_run(
+        rt.alloc(),
+        &words,
+        &mut again,
+        &mut Discard::new(),
+        &mut steps,
+    );
+    assert!(rt; ended == Status::Ok);
     Ok(())
 }

@@ -12,11 +12,13 @@ mod standard;
 mod steps;
 #[cfg(test)]
 mod tests;
+mod unfailing;
 mod whole;
 
 pub use memory::{MemSink, MemSource};
 pub use standard::{StdSink, StdSource};
 pub use steps::Steps;
+pub use unfailing::{Discard, NeverFails, ZeroSource};
 pub use whole::{MOST_INPUT, ReadAllFault, read_all, write_all};
 
 /// The answer of a port that failed (own).

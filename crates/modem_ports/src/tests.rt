@@ -1,6 +1,6 @@
 use crate::{
-    Failed, MemSink, MemSource, ReadAllFault, Source, StdSink, StdSource, Steps, read_all,
-    write_all,
+    Discard, Failed, MemSink, MemSource, NeverFails, ReadAllFault, Source, StdSink, StdSource,
+    Steps, ZeroSource, read_all, write_all,
 };
 use std::io;
 use std::io::{ErrorKind, Read, Write};
@@ -134,6 +134,20 @@ fn over_a_writer(rt: HostRuntime) -> Result<(), Fail> {
         let mut sink = StdSink::new(fake);
         assert_eq!(rt; write_all(&mut sink, b"modem"), Err(Failed), "{fake:?}");
     }
+    Ok(())
+}
+
+#[test]
+fn ports_that_never_fail(rt: HostRuntime) -> Result<(), Fail> {
+    let mut source = NeverFails::open(rt.alloc(), b"modem")?;
+    let bytes = read_all(rt.alloc(), &mut source, 5)?;
+    assert_eq!(rt; bytes.as_slice(), b"modem".as_slice());
+    assert_eq!(rt; write_all(&mut Discard::new(), b"modem"), Ok(()));
+    let long = matches!(
+        read_all(rt.alloc(), &mut ZeroSource::new(), 5000),
+        Err(ReadAllFault::Long)
+    );
+    assert!(rt; long);
     Ok(())
 }
 
