@@ -31,7 +31,7 @@ use Rattle.frame_reader.specs.Frames.{HasField, data_decisions}
 use Rattle.exact_decisions.specs.Laws.{SentIsHeard, sent_header}
 use Rattle.exact_decisions.specs.Sent.{AreAsSent}
 use Rattle.exact_decisions.proofs.Fields.{no_distance, no_distance_of_same, pieces_joined, same_pieces}
-use Rattle.exact_decisions.proofs.Headers.{header_says}
+use Rattle.signal_field.proofs.Headers.{bits_say_header}
 
 -- ---- the header
 -- all of SIGNAL's code is kept
@@ -67,12 +67,12 @@ header_read rate octets some most =
       bits = bits;
       least = changes Half 24 bits (signal_code rate octets);
       nearest = few_changes_repaired Half 24 bits (signal_code rate octets) (omega arith) nearly;
-      says = header_says rate octets 0 some most;
+      says = bits_say_header rate octets 0 (some, most) (omega arith);
     }
 
 -- ---- the field
 -- a field goes on to the end of its tail at least
-reaches : (rate : Rate) (octets : ℕ) → bits_through_tail octets ≤ symbol_count (row_of rate).field_bits octets * (row_of rate).field_bits
+pub reaches : (rate : Rate) (octets : ℕ) → bits_through_tail octets ≤ symbol_count (row_of rate).field_bits octets * (row_of rate).field_bits
 reaches R6 octets = omega arith
 reaches R9 octets = omega arith
 reaches R12 octets = omega arith
