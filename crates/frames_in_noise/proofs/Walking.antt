@@ -1,5 +1,6 @@
 -- The walk over a capture near a list of frames finds these frames.
 use Rattle.std.proofs.Common.{◌≡◌, ℕ, suc, ◌+◌, ◌<◌, ◌≤◌, true, false, List, [], ◌∷◌, length, map, drop, All, ap, refl, sym, ◌∙◌, arith, pos}
+use Rattle.std.specs.Prelude.{None}
 use Rattle.std.proofs.lemmas.List.{get_or-drop, length-drop}
 use Rattle.fixed_complex.specs.declared.Sample.{Sample}
 use Rattle.fixed_complex.specs.Pairs.{zero_pair}
@@ -10,9 +11,16 @@ use Rattle.frame_search.specs.Match.{part}
 use Rattle.starts_in_noise.proofs.Loud.{preamble_is_loud, silence_is_quiet}
 use Rattle.frame_lists.specs.Near.{SentFrame, StandFrom, bound_at, end_of_sent, waveform_at}
 use Rattle.frame_lists.proofs.Places.{one_waveform, others_behind, silent_up_to_start}
+use Rattle.frame_lists.proofs.Growing.{bounds_may_grow}
+use Rattle.frame_lists.specs.Items.{frames_from, samples_of_items}
+use Rattle.frame_lists.specs.Laws.{SentListIsNear}
+use Rattle.rate_table.specs.declared.Rate.{Rate}
+use Rattle.rate_table.specs.Table.{row_of}
+use Rattle.rate_table.proofs.ByRate.{by_rate}
+use Rattle.frame_findings.proofs.Walking.{one_findings}
 use Rattle.exact_decisions.specs.Laws.{sent_header}
 use Rattle.frame_findings.specs.Walk.{HearsNext, IsChosen, NoneChosen, Walks}
-use Rattle.frames_in_noise.specs.Laws.{BeginsNear, IsFrame, NoiseIsWithstood, heard_of, noise_bound_of}
+use Rattle.frames_in_noise.specs.Laws.{BeginsNear, IsFrame, NoiseIsWithstood, NothingElseIsFound, SentListIsHeard, heard_of, noise_bound_of}
 use Rattle.frames_in_noise.proofs.Codes.{bound_of_symbol}
 use Rattle.frames_in_noise.proofs.Frames.{frame_is_read}
 use Rattle.frames_in_noise.proofs.Parts.{near_preamble, part_at}
@@ -120,3 +128,15 @@ pub noise_is_withstood : NoiseIsWithstood
 noise_is_withstood capture frames are near =
     let found = walk capture frames 0 0 are (omega arith) (λ place last. omega arith) near.stand (λ place past inside. near.near place inside) in
     record { upto = found.0; walks = found.1.0; ends = found.1.1 }
+
+pub nothing_else_is_found : NothingElseIsFound
+nothing_else_is_found capture frames heard cut are near findings = one_findings capture heard (map heard_of frames) cut None findings (noise_is_withstood capture frames are near)
+
+-- ---- frames as they are sent
+noise_allows_one : (rate : Rate) → 1 ≤ (row_of rate).noise_bound
+noise_allows_one = by_rate (λ rate. 1 ≤ (row_of rate).noise_bound) (omega arith) (omega arith) (omega arith) (omega arith) (omega arith) (omega arith) (omega arith) (omega arith)
+
+pub sent_list_is_heard : SentListIsNear → SentListIsHeard
+sent_list_is_heard sent items some gaps are =
+    noise_is_withstood (samples_of_items items) (frames_from 0 items) are
+    (bounds_may_grow (λ _. 1) noise_bound_of 0 64 (samples_of_items items) (frames_from 0 items) (λ frame. noise_allows_one frame.rate) (omega arith) (sent items some gaps))

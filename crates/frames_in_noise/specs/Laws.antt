@@ -1,5 +1,5 @@
 -- What the laws of frames in noise state (own).
-use Rattle.std.specs.Prelude.{ℕ, ◌≤◌, ◌<◌, List, map, length, All, None}
+use Rattle.std.specs.Prelude.{◌≡◌, ℕ, ◌≤◌, ◌<◌, List, map, length, drop, All, Option, None}
 use Rattle.bit_lists.specs.Bits.{AreOctets}
 use Rattle.fixed_complex.specs.declared.Sample.{Sample}
 use Rattle.fixed_complex.specs.PairLists.{entry}
@@ -8,10 +8,12 @@ use Rattle.ofdm_scrambler.specs.Sequence.{IsSeed}
 use Rattle.rate_table.specs.Symbols.{IsLength}
 use Rattle.rate_table.specs.Table.{row_of}
 use Rattle.plain_waves.specs.Nearness.{IsNearPlain}
+use Rattle.frame_lists.specs.Items.{Item, frames_from, samples_of_items}
 use Rattle.frame_lists.specs.Near.{AreNear, SentFrame, plain_of, samples_of}
 use Rattle.frame_reader.specs.Decisions.{plain_decisions}
 use Rattle.frame_reader.specs.Frames.{HasField, Opens}
 use Rattle.exact_decisions.specs.Laws.{sent_header}
+use Rattle.frame_findings.specs.declared.Cut.{Cut}
 use Rattle.frame_findings.specs.declared.Heard.{Heard}
 use Rattle.frame_findings.specs.Walk.{AreFindings}
 
@@ -55,3 +57,18 @@ abbrev pub NoiseIsWithstood : Type 0
 NoiseIsWithstood =
     (capture : List Sample) (frames : List SentFrame) → All IsFrame frames
     → AreNear noise_bound_of 64 capture frames → AreFindings capture (map heard_of frames) None
+
+-- and it has no other findings
+abbrev pub NothingElseIsFound : Type 0
+NothingElseIsFound =
+    (capture : List Sample) (frames : List SentFrame) (heard : List Heard) (cut : Option Cut) → All IsFrame frames
+    → AreNear noise_bound_of 64 capture frames → AreFindings capture heard cut
+    → (heard ≡ map heard_of frames) × (cut ≡ None)
+
+-- the findings of the samples of a list in which the gaps but the first are at least 16 are its frames, in order, and no
+-- cut
+abbrev pub SentListIsHeard : Type 0
+SentListIsHeard =
+    (items : List Item) → 0 < length items → All (λ (item : Item). 16 ≤ item.gap) (drop 1 items)
+    → All IsFrame (frames_from 0 items)
+    → AreFindings (samples_of_items items) (map heard_of (frames_from 0 items)) None
