@@ -1,0 +1,10 @@
+//! The lines of the frames that are heard in a capture, and of its edges, as texts (own).
+#![tactic(auto)]
+
+mod findings;
+mod reports;
+#[cfg(test)]
+mod tests;
+
+pub use findings::Lines;
+pub use reports::reports_text;
