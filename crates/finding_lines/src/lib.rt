@@ -2,6 +2,7 @@
 #![tactic(auto)]
 
 mod findings;
+pub mod laws;
 mod reports;
 #[cfg(test)]
 mod tests;
