@@ -13,14 +13,12 @@ use Rattle.fixed_complex.specs.Samples.{sample_at}
 use Rattle.fixed_complex.proofs.PairLists.{entry-map, everywhere_within}
 use Rattle.fixed_complex.proofs.PairSizes.{wider}
 use Rattle.fixed_complex.proofs.Pairs.{same_parts}
-use Rattle.butterfly64.proofs.SampleBudgets.{near_received}
 use Rattle.plain_waves.specs.Bodies.{all_times, plain_body}
 use Rattle.plain_waves.specs.Bounds.{FitASample}
 use Rattle.plain_waves.proofs.Loads.{plain_within}
 use Rattle.plain_waves.proofs.Places.{plain_body-local}
-use Rattle.carrier_equaliser.specs.Nearness.{AreNearPlainSums}
-use Rattle.carrier_equaliser.specs.Received.{pair_at, received, received_at}
-use Rattle.carrier_equaliser.proofs.ComingBack.{comes_back}
+use Rattle.carrier_equaliser.specs.Received.{pair_at, received}
+use Rattle.carrier_equaliser.proofs.ComingBack.{comes_back, received_are_near}
 use Rattle.decided_axis.specs.Channels.{IsCarried}
 use Rattle.symbols_in_noise.specs.Laws.{IsNearBody}
 
@@ -50,14 +48,6 @@ of_16_bits bound xs samples most fits near n =
     ]
 
 -- ---- received carriers
-pub near_sums : (samples : List Sample) → ((n : ℕ) → IsWithin 32768 (pair_at samples n)) → AreNearPlainSums 40 (received samples) samples
-near_sums samples small = record {
-  long = length-map-range_with_len (received_at (pair_at samples)) 0 64;
-  each = λ bin lt.
-      let near = near_received (pair_at samples) small bin lt in
-      rw (entry-map (received_at (pair_at samples)) 64 bin lt) (record { re = near.re; im = near.im });
-}
-
 -- the channel of noise alone
 abbrev pub one : Cx
 one = record { re = pos 1; im = pos 0 }
@@ -74,6 +64,6 @@ alone y x = same_parts _ _ (re y.re x.re x.im) (im y.im x.re x.im)
 
 pub carried : (bound : ℕ) (xs : List Cx) (samples : List Sample) → bound ≤ 64 → PairsWithin 954 xs → FitASample xs → IsNearBody bound (entry xs) samples → (bin : ℕ) → bin < 64 → IsCarried 1 (91 * bound + 70) one (entry xs bin) (entry (received samples) bin)
 carried bound xs samples most within fits near bin lt =
-    let sums = near_sums samples (of_16_bits bound xs samples most fits near) in
-    let back = comes_back bound (entry xs) samples (received samples) (everywhere_within 954 xs within) near sums bin lt in
+    let sums = received_are_near samples (of_16_bits bound xs samples most fits near) in
+    let back = comes_back bound (entry xs) samples (received samples) (λ bin lt. everywhere_within 954 xs within bin) near sums bin lt in
     record { near = rw (alone (entry (received samples) bin) (entry xs bin)) (wider (91 * bound + 70) (1 * (91 * bound + 70)) _ (omega arith) back) }
