@@ -1,5 +1,5 @@
 -- How many bytes lines have, and how many samples their frames.
-use Rattle.std.proofs.Common.{◌≡◌, ℕ, ◌+◌, ◌*◌, ◌/◌, ◌^◌, ◌<◌, ◌≤◌, List, [], ◌∷◌, ◌++◌, length, length-append, take, drop, Option, Some, lit<, refl, sym, ap, ◌∙◌, subst, arith}
+use Rattle.std.proofs.Common.{◌≡◌, ℕ, ◌+◌, ◌*◌, ◌/◌, ◌^◌, ◌<◌, ◌≤◌, List, [], ◌∷◌, ◌++◌, length, length-append, take, drop, lit<, arith}
 use Rattle.std.specs.List.{flat_map}
 use Rattle.std.specs.Prelude.{codes, decimal}
 use Rattle.std.proofs.lemmas.Fmt.{length-decimal-le}
@@ -14,10 +14,8 @@ use Rattle.rate_table.proofs.ByRate.{by_rate}
 use Rattle.rate_table.specs.declared.Rate.{Rate}
 use Rattle.rate_table.specs.Symbols.{symbol_count}
 use Rattle.rate_table.specs.Table.{row_of}
-use Rattle.modem_links.specs.Fields.{psdu_in}
-use Rattle.frame_findings.specs.declared.Cut.{Cut}
 use Rattle.frame_findings.specs.declared.Heard.{Heard}
-use Rattle.frame_findings.specs.Walk.{AreFindings, HearsNext, Walks, end_of}
+use Rattle.frame_findings.specs.Walk.{HearsNext, Walks, end_of}
 use Rattle.finding_lines.specs.Laws.{CutLineFits, NextLineFits, line_room}
 use Rattle.finding_lines.specs.Lines.{frame_line, most_text, spaced}
 

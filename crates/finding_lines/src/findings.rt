@@ -48,13 +48,14 @@ impl Lines {
     pub fn put_frame(&mut self, start: u32, rate: Rate, octets: u16, seed: u8, psdu: &[u8])
         requires octets { length psdu.now ≤ most_octets }
         requires room { length self.old + 2 * length psdu.now + 51 ≤ most_text }
-        ensures { self.new ≡ self.old ++ frame_line (record {
+        ensures line { self.new ≡ self.old ++ frame_line (record {
           start = start;
           rate = rate;
           length = octets;
           seed = seed;
           psdu = psdu.now;
         }) }
+        ensures short { length self.new ≤ length self.old + 2 * length psdu.now + 51 }
     {
         self.put(b"frame ");
         self.put_spaced(start);
@@ -69,7 +70,8 @@ impl Lines {
     /// more. Takes no memory.
     pub fn put_cut(&mut self, cut: Cut)
         requires { length self.old + 37 ≤ most_text }
-        ensures { self.new ≡ self.old ++ cut_line cut }
+        ensures line { self.new ≡ self.old ++ cut_line cut }
+        ensures short { length self.new ≤ length self.old + 37 }
     {
         self.put(b"cut ");
         self.put_spaced(cut.start);
