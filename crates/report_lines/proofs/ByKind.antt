@@ -1,7 +1,7 @@
 -- The kinds of refusals: those that words and input decide, the faults of the ports, and want of memory.
 use Rattle.std.proofs.Common.{◌≡◌, ◌⊎◌, inl, inr, refl, subst}
 use Rattle.report_lines.specs.declared.Refusal.{Refusal}
-use Rattle.report_lines.specs.declared.Refusal.TheVariants.{Words, EmptyPsdu, LongPsdu, TornCapture, LongCapture, BadBit, BitCount, ReadFault, WriteFault, NoMemory, BadScript}
+use Rattle.report_lines.specs.declared.Refusal.TheVariants.{Words, EmptyPsdu, LongPsdu, TornCapture, LongCapture, BadBit, BitCount, NoFrame, CutFrame, ReadFault, WriteFault, NoMemory, BadScript}
 use Rattle.report_lines.specs.declared.Status.TheVariants as status
 use Rattle.report_lines.specs.Refusals.{IsDecided, asking, status_of, step_of}
 
@@ -13,6 +13,8 @@ kinds (TornCapture bytes) = inl tt
 kinds LongCapture = inl tt
 kinds (BadBit at) = inl tt
 kinds (BitCount have need) = inl tt
+kinds NoFrame = inl tt
+kinds (CutFrame start have need) = inl tt
 kinds ReadFault = inr (inl refl)
 kinds WriteFault = inr (inr (inl refl))
 kinds NoMemory = inr (inr (inr refl))
@@ -27,6 +29,8 @@ of_words (TornCapture bytes) is = cc
 of_words LongCapture is = cc
 of_words (BadBit at) is = cc
 of_words (BitCount have need) is = cc
+of_words NoFrame is = cc
+of_words (CutFrame start have need) is = cc
 of_words ReadFault is = cc
 of_words WriteFault is = cc
 of_words NoMemory is = cc
@@ -41,6 +45,8 @@ of_asking (TornCapture bytes) is = cc
 of_asking LongCapture is = cc
 of_asking (BadBit at) is = cc
 of_asking (BitCount have need) is = cc
+of_asking NoFrame is = cc
+of_asking (CutFrame start have need) is = cc
 of_asking ReadFault is = cc
 of_asking WriteFault is = cc
 of_asking NoMemory is = cc

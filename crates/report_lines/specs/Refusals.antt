@@ -1,7 +1,7 @@
 -- Refusals, statuses and report lines (own).
 use Rattle.std.specs.Prelude.{ℕ, List, [], ◌∷◌, ◌++◌, codes, decimal}
 use Rattle.report_lines.specs.declared.Refusal.{Refusal}
-use Rattle.report_lines.specs.declared.Refusal.TheVariants.{Words, EmptyPsdu, LongPsdu, TornCapture, LongCapture, BadBit, BitCount, ReadFault, WriteFault, NoMemory, BadScript}
+use Rattle.report_lines.specs.declared.Refusal.TheVariants.{Words, EmptyPsdu, LongPsdu, TornCapture, LongCapture, BadBit, BitCount, NoFrame, CutFrame, ReadFault, WriteFault, NoMemory, BadScript}
 use Rattle.report_lines.specs.declared.Status.{Status}
 use Rattle.report_lines.specs.declared.Status.TheVariants as status
 
@@ -25,6 +25,8 @@ status_of (TornCapture bytes) = status.BadInput
 status_of LongCapture = status.BadInput
 status_of (BadBit at) = status.BadInput
 status_of (BitCount have need) = status.BadInput
+status_of NoFrame = status.NoFrame
+status_of (CutFrame start have need) = status.CutFrame
 status_of ReadFault = status.ReadFault
 status_of WriteFault = status.WriteFault
 status_of NoMemory = status.NoMemory
@@ -41,6 +43,10 @@ report_of LongCapture = codes "error 5: input over 67108864 bytes"
 report_of (BadBit at) = codes "error 6: no bit at " ++ decimal at
 report_of (BitCount have need) =
     codes "error 7: " ++ decimal have ++ codes " bits, need " ++ decimal need
+report_of NoFrame = codes "error 8: no frame"
+report_of (CutFrame start have need) =
+    codes "error 9: frame at " ++ decimal start ++ codes " has " ++ decimal have ++ codes " of "
+    ++ decimal need ++ codes " samples"
 report_of ReadFault = codes "error 10: read fault"
 report_of WriteFault = codes "error 11: write fault"
 report_of NoMemory = codes "error 12: no memory"
@@ -79,6 +85,8 @@ step_of (TornCapture bytes) = reading
 step_of LongCapture = reading
 step_of (BadBit at) = answering
 step_of (BitCount have need) = answering
+step_of NoFrame = answering
+step_of (CutFrame start have need) = answering
 step_of ReadFault = reading
 step_of WriteFault = writing
 step_of NoMemory = any

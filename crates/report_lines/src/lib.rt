@@ -69,6 +69,11 @@ pub enum Refusal {
     BadBit { at: usize },
     /// The text has `have` bits, and the words ask for another number, `need`.
     BitCount { have: u32, need: u32 },
+    /// No frame is found in a capture.
+    NoFrame,
+    /// The first frame of a capture, at the place `start`, has `have` samples there, fewer than the
+    /// `need` of its header.
+    CutFrame { start: u32, have: u32, need: u32 },
     /// A read failed.
     ReadFault,
     /// A write of the answer failed.
@@ -93,6 +98,8 @@ impl Refusal {
             | Refusal::LongCapture
             | Refusal::BadBit { .. }
             | Refusal::BitCount { .. } => Status::BadInput,
+            Refusal::NoFrame => Status::NoFrame,
+            Refusal::CutFrame { .. } => Status::CutFrame,
             Refusal::ReadFault => Status::ReadFault,
             Refusal::WriteFault => Status::WriteFault,
             Refusal::NoMemory => Status::NoMemory,

@@ -45,13 +45,23 @@ impl Line {
     }
 
     // The line with a number behind it, in decimal.
-    fn with_number(self, number: u64) -> Line
-        requires { length self ≤ 60 }
+    fn with_number(self, number: u32) -> Line
+        requires { length self ≤ 70 }
         ensures value { result ≡ self ++ decimal number }
-        ensures len { length result ≤ length self + 20 }
+        ensures len { length result ≤ length self + 10 }
     {
         let mut buffer = Buffer::new();
         self.with(buffer.format(number).as_bytes())
+    }
+
+    // The line with a place behind it, in decimal.
+    fn with_place(self, place: usize) -> Line
+        requires { length self ≤ 60 }
+        ensures value { result ≡ self ++ decimal place }
+        ensures len { length result ≤ length self + 20 }
+    {
+        let mut buffer = Buffer::new();
+        self.with(buffer.format(place as u64).as_bytes())
     }
 
     // A line of these bytes.
@@ -76,22 +86,28 @@ pub fn line_of(refusal: &Refusal) -> Line
         Refusal::EmptyPsdu => Line::of(b"error 2: empty psdu\n"),
         Refusal::LongPsdu => Line::of(b"error 3: psdu over 4095 octets\n"),
         Refusal::TornCapture { bytes } => Line::of(b"error 4: capture ends after ")
-            .with_number(u64::from(*bytes))
+            .with_number(*bytes)
             .with(b" bytes\n"),
         Refusal::LongCapture => Line::of(b"error 5: input over 67108864 bytes\n"),
-        Refusal::BadBit { at } => Line::of(b"error 6: no bit at ")
-            .with_number(*at as u64)
-            .with(b"\n"),
+        Refusal::BadBit { at } => Line::of(b"error 6: no bit at ").with_place(*at).with(b"\n"),
         Refusal::BitCount { have, need } => Line::of(b"error 7: ")
-            .with_number(u64::from(*have))
+            .with_number(*have)
             .with(b" bits, need ")
-            .with_number(u64::from(*need))
+            .with_number(*need)
             .with(b"\n"),
+        Refusal::NoFrame => Line::of(b"error 8: no frame\n"),
+        Refusal::CutFrame { start, have, need } => Line::of(b"error 9: frame at ")
+            .with_number(*start)
+            .with(b" has ")
+            .with_number(*have)
+            .with(b" of ")
+            .with_number(*need)
+            .with(b" samples\n"),
         Refusal::ReadFault => Line::of(b"error 10: read fault\n"),
         Refusal::WriteFault => Line::of(b"error 11: write fault\n"),
         Refusal::NoMemory => Line::of(b"error 12: no memory\n"),
         Refusal::BadScript { at } => Line::of(b"error 13: bad script at ")
-            .with_number(*at as u64)
+            .with_place(*at)
             .with(b"\n"),
     }
 }
