@@ -1,3 +1,5 @@
 pub mod Points
 pub mod Channels
 pub mod Rightly
+pub mod Groups
+pub mod Symbols

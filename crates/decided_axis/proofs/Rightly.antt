@@ -10,9 +10,9 @@ use Rattle.decided_axis.proofs.Channels.{deviation, left_of, near, squared_size,
 use Rattle.decided_axis.proofs.Points.{bits_back, point_size}
 
 pub decided_rightly : DecidedRightly
-decided_rightly modulation group scale carried estimated least left channel estimate received are long carries estimates large some leaves enough =
+decided_rightly modulation group scale carried estimated least left channel received estimate are long allows over =
     let z = times received (conjugate estimate) in
-    let error = deviation scale carried estimated (size_of_point modulation) channel (point_of modulation group) received estimate some (point_size modulation group are long) carries estimates in
-    let size = left_of scale estimated least left channel estimate estimates large leaves in
+    let error = deviation scale carried estimated (size_of_point modulation) channel (point_of modulation group) received estimate allows.some (point_size modulation group are long) over.carries over.estimates in
+    let size = left_of scale estimated least left channel estimate over.estimates over.large allows.leaves in
     ap (λ m. take (bits_of_modulation modulation) (decided modulation z m)) (squared_size_is estimate)
-    ∙ bits_back modulation group z (squared_size estimate) are long (near modulation (point_of modulation group) received estimate _ left error size enough)
+    ∙ bits_back modulation group z (squared_size estimate) are long (near modulation (point_of modulation group) received estimate _ left error size allows.enough)

@@ -1,10 +1,11 @@
 -- Received carriers and an estimate over one channel, up to errors (own). The scale stands in place of a quotient:
 -- what is said of a pair holds of the scale times the pair.
-use Rattle.std.specs.Prelude.{ℕ, ◌*◌, pos, ◌+ℤ◌, ◌*ℤ◌, ◌≤ℤ◌}
+use Rattle.std.specs.Prelude.{ℕ, ◌+◌, ◌*◌, ◌<◌, pos, ◌+ℤ◌, ◌*ℤ◌, ◌≤ℤ◌}
 use Rattle.fixed_complex.specs.declared.Cx.{Cx}
 use Rattle.fixed_complex.specs.Pairs.{IsOfSize, minus, multiple, times}
 use Rattle.rate_table.specs.declared.Modulation.{Modulation}
 use Rattle.rate_table.specs.declared.Modulation.TheVariants.{Bpsk, Qpsk, Qam16, Qam64}
+use Rattle.constellations.specs.Axes.{amplitude_of}
 
 -- the pair is at least so large in size: re^2 + im^2 is at least the bound's square
 pub record IsAtLeastOfSize (bound : ℕ) (a : Cx) : Type 0 where
@@ -26,3 +27,16 @@ size_of_point Bpsk = 648
 size_of_point Qpsk = 648
 size_of_point Qam16 = 870
 size_of_point Qam64 = 990
+
+-- over a channel of at least a size a carrier that was sent is received, and the channel is estimated, to within errors
+pub record IsOver (scale carried estimated least : ℕ) (channel sent received estimate : Cx) : Type 0 where
+  pub carries : IsCarried scale carried channel sent received
+  pub estimates : IsEstimated scale estimated channel estimate
+  pub large : IsAtLeastOfSize least channel
+
+-- errors and the least size of a channel allow a modulation: `left` is what they leave of the estimate's size, and it is
+-- enough for half a spacing of the levels
+pub record Allows (modulation : Modulation) (scale carried estimated least left : ℕ) : Type 0 where
+  pub some : 0 < scale
+  pub leaves : scale * left + scale * estimated < 41472 * least
+  pub enough : 1296 * carried + size_of_point modulation * estimated < amplitude_of modulation * left

@@ -7,17 +7,13 @@ use Rattle.kept_weights.specs.Weights.{distance_over}
 use Rattle.bit_lists.specs.Bits.{AreBits, AreOctets, IsBit}
 use Rattle.conv_code.proofs.Coded.{AreBits-code_of}
 use Rattle.puncture_map.specs.Kept.{kept_code, kept_count}
-use Rattle.puncture_map.proofs.Counts.{kept_count-symbols}
-use Rattle.puncture_map.proofs.KeptBits.{AreBits-kept_bits}
-use Rattle.puncture_map.proofs.Ranks.{kept_count-rises}
 use Rattle.interleave_two.specs.Place.{symbol_bits}
 use Rattle.ofdm_scrambler.specs.Sequence.{IsSeed}
 use Rattle.rate_table.specs.declared.CodeRate.TheVariants.{Half}
 use Rattle.rate_table.specs.declared.Rate.{Rate}
-use Rattle.rate_table.specs.declared.Rate.TheVariants.{R6, R9, R12, R18, R24, R36, R48, R54}
 use Rattle.rate_table.specs.Symbols.{bits_through_tail, symbol_count}
 use Rattle.rate_table.specs.Table.{row_of}
-use Rattle.data_field.specs.Stages.{code_at, field_at, kept_at}
+use Rattle.data_field.specs.Stages.{kept_at}
 use Rattle.survivor_memory.specs.Nearest.{IsClosed}
 use Rattle.viterbi_lanes.specs.Decisions.{AreNearlyKeptCode, changes}
 use Rattle.viterbi_lanes.proofs.Nearest.{few_changes_repaired}
@@ -27,6 +23,8 @@ use Rattle.signal_field.proofs.Signal.{AreBits-header_bits_of, length-header_bit
 use Rattle.modem_links.specs.Fields.{flips}
 use Rattle.modem_links.specs.Frames.{signal_code}
 use Rattle.modem_links.proofs.FieldLaws.{few_flips}
+use Rattle.modem_links.proofs.Fields.{enough_decisions}
+use Rattle.modem_links.proofs.NearFrames.{AreBits-kept_at}
 use Rattle.frame_reader.specs.Frames.{HasField, data_decisions}
 use Rattle.exact_decisions.specs.Laws.{SentIsHeard, sent_header}
 use Rattle.exact_decisions.specs.Sent.{AreAsSent}
@@ -71,23 +69,6 @@ header_read rate octets some most =
     }
 
 -- ---- the field
--- a field goes on to the end of its tail at least
-pub reaches : (rate : Rate) (octets : ℕ) → bits_through_tail octets ≤ symbol_count (row_of rate).field_bits octets * (row_of rate).field_bits
-reaches R6 octets = omega arith
-reaches R9 octets = omega arith
-reaches R12 octets = omega arith
-reaches R18 octets = omega arith
-reaches R24 octets = omega arith
-reaches R36 octets = omega arith
-reaches R48 octets = omega arith
-reaches R54 octets = omega arith
-
--- so there are enough decisions
-enough : (rate : Rate) (octets : ℕ) → kept_count (row_of rate).code_rate (bits_through_tail octets) ≤ symbol_count (row_of rate).field_bits octets * (row_of rate).coded_bits
-enough rate octets =
-    rw (kept_count-symbols rate (row_of rate).code_rate (symbol_count (row_of rate).field_bits octets) refl)
-    at (kept_count-rises (row_of rate).code_rate (bits_through_tail octets) (symbol_count (row_of rate).field_bits octets * (row_of rate).field_bits) (reaches rate octets))
-
 module _ (rate : Rate) (seed : ℕ) (psdu : List ℕ) (decisions : Rate → ℕ → List ℕ) (sent : AreAsSent rate seed psdu decisions) where
   abbrev symbols : ℕ
   symbols = symbol_count (row_of rate).field_bits (length psdu)
@@ -106,13 +87,10 @@ module _ (rate : Rate) (seed : ℕ) (psdu : List ℕ) (decisions : Rate → ℕ 
   no_flips : flips rate seed psdu (data_decisions decisions rate symbols) ≡ 0
   no_flips =
       ap (flips rate seed psdu) joined
-      ∙ no_distance kept (kept_count (row_of rate).code_rate (bits_through_tail (length psdu))) (symbols * (row_of rate).coded_bits) (enough rate (length psdu))
+      ∙ no_distance kept (kept_count (row_of rate).code_rate (bits_through_tail (length psdu))) (symbols * (row_of rate).coded_bits) (enough_decisions rate (length psdu))
 
   are_bits : AreBits (data_decisions decisions rate symbols)
-  are_bits =
-      rw joined
-      (All-take IsBit (symbols * (row_of rate).coded_bits) kept
-      (AreBits-kept_bits (row_of rate).code_rate (code_at rate seed psdu) (length (code_at rate seed psdu)) (AreBits-code_of (field_at rate seed psdu))))
+  are_bits = rw joined (All-take IsBit (symbols * (row_of rate).coded_bits) kept (AreBits-kept_at rate seed psdu))
 
   pub field : IsSeed seed → AreOctets psdu → HasField decisions (sent_header rate psdu) seed psdu
   field is_seed octets =

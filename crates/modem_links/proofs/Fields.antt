@@ -6,10 +6,11 @@ use Rattle.std.proofs.lemmas.List.FromFn.{length-map-range_with_len, get_or-map-
 use Rattle.bit_lists.specs.Bits.{AreBits, IsBit, bits_of_octets, exclusive_or}
 use Rattle.bit_lists.proofs.EightBits.{length-bits_of_octets}
 use Rattle.bit_lists.proofs.BitFacts.{AreBits-bits_of_octets}
-use Rattle.data_field.specs.Stages.{field_at}
+use Rattle.data_field.specs.Stages.{field_at, kept_at}
 use Rattle.data_field.specs.Field.{data_field, field_length, plain_field, with_tail}
 use Rattle.kept_weights.specs.Weights.{distance_over}
 use Rattle.kept_weights.proofs.Fronts.{distance_over-take}
+use Rattle.kept_weights.proofs.StepWeights.{length-kept_code}
 use Rattle.ofdm_scrambler.specs.Sequence.{IsSeed, scrambled, scrambler_bit, scrambler_sequence}
 use Rattle.ofdm_scrambler.proofs.LastSeven.{AreBits-scrambled, IsBit-scrambler_bit}
 use Rattle.puncture_map.specs.Kept.{kept_count, kept_code}
@@ -126,6 +127,29 @@ length-front : (rate : Rate) (seed : ℕ) (psdu : List ℕ) → length (field_fr
 length-front rate seed psdu =
     let r = reaches rate seed psdu in
     length-fronted (tail_place (length psdu)) (scrambled seed (plain_field (row_of rate).field_bits psdu)) (omega (arith, r.long, r.through))
+
+-- how many bits a field has, and its kept code
+length-tailed : (place : ℕ) (bits : List ℕ) → place + 6 ≤ length bits → length (with_tail place bits) ≡ length bits
+length-tailed place bits within =
+    omega (
+      arith,
+      length-append (take place bits ++ replicate 6 0) (drop (place + 6) bits),
+      length-append (take place bits) (replicate 6 0),
+      length-take-le place bits (omega arith),
+      length-replicate {A = ℕ} 6 0,
+      length-drop (place + 6) bits,
+    )
+
+pub length-field : (rate : Rate) (seed : ℕ) (psdu : List ℕ) → length (field_at rate seed psdu) ≡ field_length (row_of rate).field_bits (length psdu)
+length-field rate seed psdu =
+    let r = reaches rate seed psdu in
+    length-tailed (tail_place (length psdu)) (scrambled seed (plain_field (row_of rate).field_bits psdu)) (omega (arith, r.long, r.through)) ∙ r.long
+
+pub length-kept : (rate : Rate) (seed : ℕ) (psdu : List ℕ) → length (kept_at rate seed psdu) ≡ symbol_count (row_of rate).field_bits (length psdu) * (row_of rate).coded_bits
+length-kept rate seed psdu =
+    length-kept_code (row_of rate).code_rate (field_at rate seed psdu)
+    ∙ ap (kept_count (row_of rate).code_rate) (length-field rate seed psdu)
+    ∙ kept_count-symbols rate (row_of rate).code_rate (symbol_count (row_of rate).field_bits (length psdu)) refl
 
 -- the front ends in six zeros
 pub front_is_closed : (rate : Rate) (seed : ℕ) (psdu : List ℕ) → IsClosed (bits_through_tail (length psdu)) (field_front (row_of rate).field_bits seed psdu)

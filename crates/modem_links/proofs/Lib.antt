@@ -1,6 +1,6 @@
-mod Fields
+pub mod Fields
 pub mod Begun
 pub mod FramePlaces
-mod NearFrames
+pub mod NearFrames
 pub mod FieldLaws
 pub mod Symbols

@@ -41,7 +41,7 @@ small_code rate bits are =
     let long : length (interleaved rate bits) ≡ (row_of rate).coded_bits = length-map-range_with_len _ 0 (row_of rate).coded_bits in
     small_points (row_of rate).modulation (interleaved rate bits) (AreBits-interleaved rate bits are) (omega (arith, groups rate, long))
 
-AreBits-kept_at : (rate : Rate) (seed : ℕ) (psdu : List ℕ) → AreBits (kept_at rate seed psdu)
+pub AreBits-kept_at : (rate : Rate) (seed : ℕ) (psdu : List ℕ) → AreBits (kept_at rate seed psdu)
 AreBits-kept_at rate seed psdu = AreBits-kept_bits (row_of rate).code_rate (code_at rate seed psdu) (length (code_at rate seed psdu)) (AreBits-code_of (field_at rate seed psdu))
 
 small_frame_points : (rate : Rate) (seed : ℕ) (psdu : List ℕ) (n : ℕ) → PairsWithin 700 (frame_points rate seed psdu n)

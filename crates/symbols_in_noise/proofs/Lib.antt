@@ -1,4 +1,3 @@
 pub mod Bodies
-pub mod Groups
 pub mod Bounds
 pub mod Symbols

@@ -1,14 +1,9 @@
 -- A symbol within its rate's noise bound is decided as it was sent.
-use Rattle.std.proofs.Common.{◌≡◌, ℕ, ◌+◌, ◌*◌, slice_index, ◌<◌, ◌≤◌, Bool, true, eqb, nat_lt, ◌&&◌, List, length, take, drop, refl, ap, sym, subst, ◌∙◌, arith, pos, ◌*ℤ◌, unsigned_abs}
-use Rattle.std.specs.List.{range_with_len}
-use Rattle.std.proofs.lemmas.Bool.{agree_below_at, and_parts, eqb-true, ltb-true}
-use Rattle.std.proofs.lemmas.List.{length-drop, length-take-le, take_all}
-use Rattle.std.proofs.lemmas.List.Elements.{All-drop, All-map, All-take}
+use Rattle.std.proofs.Common.{◌≡◌, ℕ, ◌+◌, ◌*◌, ◌<◌, ◌≤◌, true, eqb, List, length, refl, ap, sym, subst, ◌∙◌, arith, pos, ◌*ℤ◌, unsigned_abs}
+use Rattle.std.proofs.lemmas.Bool.{agree_below_at, eqb-true}
 use Rattle.std.proofs.lemmas.List.FromFn.{length-map-range_with_len}
-use Rattle.std.proofs.Math.Nat.{mul-le-mul_left}
 use Rattle.integer_laws.proofs.Order.{pos-le, square_is}
-use Rattle.bit_lists.specs.Bits.{AreBits, IsBit}
-use Rattle.bit_lists.proofs.BitFacts.{IsBit-slice_index}
+use Rattle.bit_lists.specs.Bits.{AreBits}
 use Rattle.fixed_complex.specs.declared.Cx.{Cx}
 use Rattle.fixed_complex.specs.declared.Sample.{Sample}
 use Rattle.fixed_complex.specs.PairLists.{PairsWithin, entry}
@@ -16,10 +11,9 @@ use Rattle.fixed_complex.specs.Pairs.{multiple, plus}
 use Rattle.fixed_complex.proofs.PairLists.{entry-map}
 use Rattle.fixed_complex.proofs.PairSizes.{within_wider}
 use Rattle.rate_table.specs.declared.Rate.{Rate}
-use Rattle.rate_table.specs.Table.{bits_of_modulation, row_of}
+use Rattle.rate_table.specs.Table.{row_of}
 use Rattle.rate_table.proofs.ByRate.{coded_bits_by_modulation}
-use Rattle.interleave_two.specs.Place.{deinterleaved, interleaved, source_of}
-use Rattle.interleave_two.proofs.ByPlace.{deinterleaved-interleaved}
+use Rattle.interleave_two.specs.Place.{deinterleaved, interleaved}
 use Rattle.carrier_bins.specs.Bins.{all_bins, by_bin, carrier_in}
 use Rattle.carrier_bins.specs.Carriers.{bin_of, data_carrier_of}
 use Rattle.carrier_bins.specs.Signs.{sign_at}
@@ -27,43 +21,29 @@ use Rattle.plain_waves.specs.Nearness.{AreNearPlain}
 use Rattle.training_fields.specs.Training.{long_carrier, long_sign_of}
 use Rattle.training_fields.proofs.Fields.{long_fits, long_within}
 use Rattle.symbol_builder.specs.Carriers.{symbol_bin, symbol_bins}
-use Rattle.symbol_builder.specs.Points.{point_at, points_of, points_of_code}
+use Rattle.symbol_builder.specs.Points.{points_of_code}
 use Rattle.symbol_builder.proofs.Bins.{point_there}
 use Rattle.symbol_builder.proofs.PointSizes.{small_points}
 use Rattle.symbol_builder.proofs.SymbolSizes.{symbol_fits, symbol_within}
-use Rattle.carrier_equaliser.specs.Decided.{decided_at, interleaved_decisions}
+use Rattle.carrier_equaliser.specs.Decided.{interleaved_decisions}
 use Rattle.carrier_equaliser.specs.Estimates.{estimate_at, estimate_of}
 use Rattle.carrier_equaliser.specs.Received.{received}
-use Rattle.decided_axis.specs.Channels.{IsAtLeastOfSize, IsCarried, IsEstimated}
+use Rattle.decided_axis.specs.Channels.{IsAtLeastOfSize, IsCarried, IsEstimated, IsOver}
 use Rattle.decided_axis.proofs.Channels.{by_two}
-use Rattle.decided_axis.proofs.Rightly.{decided_rightly}
+use Rattle.decided_axis.specs.Laws.{data_bin}
+use Rattle.decided_axis.proofs.Symbols.{are_order, data_bin-lt, long_order, symbol_decided}
 use Rattle.symbols_in_noise.specs.Laws.{IsNearBody}
 use Rattle.symbols_in_noise.proofs.Bodies.{carried, one, same_body}
-use Rattle.symbols_in_noise.proofs.Bounds.{allows, left_in_noise}
-use Rattle.symbols_in_noise.proofs.Groups.{groups_joined, width_is}
+use Rattle.symbols_in_noise.proofs.Bounds.{bound_most, left_in_noise, noise_allows}
 
--- ---- the bins of data
--- the bin of a data number
-abbrev pub data_bin : ℕ → ℕ
-data_bin k = bin_of (data_carrier_of k)
-
--- it is below 64, and has a sign of the long training field
-bin_test : ℕ → Bool
-bin_test k = nat_lt (data_bin k) 64 && eqb (unsigned_abs (long_sign_of (carrier_in (data_bin k)))) 1
-
-bin_passes : (k : ℕ) → k < 48 → bin_test k ≡ true
-unfolding bin_test bin_of data_carrier_of sign_at
-bin_passes k lt = agree_below_at bin_test (λ _. true) 48 k refl lt
-
-pub data_bin-lt : (k : ℕ) → k < 48 → data_bin k < 64
-unfolding bin_test
-data_bin-lt k lt = ltb-true _ _ (and_parts (nat_lt (data_bin k) 64) (eqb (unsigned_abs (long_sign_of (carrier_in (data_bin k)))) 1) (bin_passes k lt)).0
+-- ---- the signs of the long training field
+-- those of data numbers
+has_sign : (k : ℕ) → k < 48 → eqb (unsigned_abs (long_sign_of (carrier_in (data_bin k)))) 1 ≡ true
+unfolding bin_of data_carrier_of sign_at
+has_sign k lt = agree_below_at (λ k. eqb (unsigned_abs (long_sign_of (carrier_in (data_bin k)))) 1) (λ _. true) 48 k refl lt
 
 pub sign_squared : (k : ℕ) → k < 48 → long_sign_of (carrier_in (data_bin k)) *ℤ long_sign_of (carrier_in (data_bin k)) ≡ pos 1
-unfolding bin_test
-sign_squared k lt =
-    let size : unsigned_abs (long_sign_of (carrier_in (data_bin k))) ≡ 1 = eqb-true _ _ (and_parts (nat_lt (data_bin k) 64) (eqb (unsigned_abs (long_sign_of (carrier_in (data_bin k)))) 1) (bin_passes k lt)).1 in
-    square_is (long_sign_of (carrier_in (data_bin k))) ∙ ap (λ n. pos (n * n)) size
+sign_squared k lt = square_is (long_sign_of (carrier_in (data_bin k))) ∙ ap (λ n. pos (n * n)) (eqb-true _ _ (has_sign k lt))
 
 -- ---- the estimate there
 pub estimate_there : (first second : List Cx) (bin : ℕ) → bin < 64 → entry (estimate_of first second) bin ≡ multiple (long_sign_of (carrier_in bin)) (plus (entry first bin) (entry second bin))
@@ -94,23 +74,11 @@ one_large = record { size = pos-le 1 1 (omega arith) }
 
 module _ (rate : Rate) (bound number : ℕ) (bits : List ℕ) (first second symbol : List Sample) (least : bound ≤ (row_of rate).noise_bound) (are : AreBits bits) (long : length bits ≡ (row_of rate).coded_bits)
     (near_first : IsNearBody bound (by_bin long_carrier) first) (near_second : IsNearBody bound (by_bin long_carrier) second) (near_symbol : IsNearBody bound (symbol_bin (points_of_code rate bits) number) symbol) where
-  abbrev order : List ℕ
-  order = interleaved rate bits
-
-  abbrev width : ℕ
-  width = bits_of_modulation (row_of rate).modulation
-
   abbrev points : List Cx
   points = points_of_code rate bits
 
-  long_order : length order ≡ (row_of rate).coded_bits
-  long_order = length-map-range_with_len (λ j. slice_index bits (source_of rate j)) 0 (row_of rate).coded_bits
-
-  are_order : AreBits order
-  are_order = All-map IsBit _ (range_with_len 0 (row_of rate).coded_bits) (λ k d _. IsBit-slice_index bits _ are)
-
   small : PairsWithin 700 points
-  small = small_points (row_of rate).modulation order are_order (omega (arith, coded_bits_by_modulation rate, long_order))
+  small = small_points (row_of rate).modulation (interleaved rate bits) (are_order rate bits are) (omega (arith, coded_bits_by_modulation rate, long_order rate bits are))
 
   bin_there : (bin : ℕ) → bin < 64 → entry (symbol_bins points number) bin ≡ symbol_bin points number bin
   bin_there bin lt = entry-map (symbol_bin points number) 64 bin lt
@@ -122,29 +90,23 @@ module _ (rate : Rate) (bound number : ℕ) (bits : List ℕ) (first second symb
         rw (bin_there bin below) (within_wider 700 954 _ (omega arith) (symbol_within points number small bin below));
   }
 
-  point_is : (k : ℕ) → k < 48 → entry (symbol_bins points number) (data_bin k) ≡ point_at (row_of rate).modulation order k
-  unfolding points_of
-  point_is k lt = bin_there (data_bin k) (data_bin-lt k lt) ∙ point_there points number k lt ∙ entry-map (point_at (row_of rate).modulation order) 48 k lt
+  point_is : (k : ℕ) → k < 48 → entry (symbol_bins points number) (data_bin k) ≡ entry points k
+  point_is k lt = bin_there (data_bin k) (data_bin-lt k lt) ∙ point_there points number k lt
 
-  group_long : (k : ℕ) → k < 48 → length (take width (drop (width * k) order)) ≡ width
-  group_long k lt =
-      let most : width * (k + 1) ≤ width * 48 = mul-le-mul_left width (omega arith) in
-      length-take-le width (drop (width * k) order) (omega (arith, most, length-drop (width * k) order, long_order, coded_bits_by_modulation rate))
+  most : bound ≤ 64
+  most = omega (arith, least, bound_most rate)
 
-  number_rightly : (k : ℕ) → k < 48 → take width (decided_at rate (estimate_of (received first) (received second)) (received symbol) k) ≡ take width (drop (width * k) order)
-  unfolding decided_at
-  number_rightly k lt =
-      let allowed = allows rate bound least in
+  over : (k : ℕ) → k < 48 → IsOver 1 (91 * bound + 70) (2 * (91 * bound + 70)) 1 one (entry points k) (entry (received symbol) (data_bin k)) (entry (estimate_of (received first) (received second)) (data_bin k))
+  over k lt =
       let body = subst (AreNearPlain bound symbol) (sym (same_body (entry (symbol_bins points number)) (symbol_bin points number) bin_there)) near_symbol in
-      let carries = carried bound (symbol_bins points number) symbol allowed.most within (symbol_fits points number small) body (data_bin k) (data_bin-lt k lt) in
-      let sent = subst (λ x. IsCarried 1 (91 * bound + 70) one x (entry (received symbol) (data_bin k))) (point_is k lt) carries in
-      decided_rightly (row_of rate).modulation (take width (drop (width * k) order)) 1 (91 * bound + 70) (2 * (91 * bound + 70)) 1 (left_in_noise (row_of rate).modulation)
-      one _ _ (All-take IsBit _ _ (All-drop IsBit _ _ are_order)) (group_long k lt) sent (estimated bound first second allowed.most near_first near_second k lt)
-      one_large (omega arith) allowed.leaves allowed.enough
+      let carries = carried bound (symbol_bins points number) symbol most within (symbol_fits points number small) body (data_bin k) (data_bin-lt k lt) in
+      record {
+        carries = subst (λ x. IsCarried 1 (91 * bound + 70) one x (entry (received symbol) (data_bin k))) (point_is k lt) carries;
+        estimates = estimated bound first second most near_first near_second k lt;
+        large = one_large;
+      }
 
   pub symbol_back : deinterleaved rate (interleaved_decisions rate (estimate_of (received first) (received second)) (received symbol)) ≡ bits
   symbol_back =
-      let numbers : (k : ℕ) → k < 48 → take (row_of rate).bits_per_carrier (decided_at rate (estimate_of (received first) (received second)) (received symbol) k) ≡ take (row_of rate).bits_per_carrier (drop ((row_of rate).bits_per_carrier * k) order) =
-      rw (width_is rate) number_rightly in
-      ap (deinterleaved rate) (groups_joined rate (estimate_of (received first) (received second)) (received symbol) order long_order numbers)
-      ∙ deinterleaved-interleaved rate bits (omega (arith, long)) ∙ take_all (row_of rate).coded_bits bits (omega (arith, long))
+      symbol_decided rate 1 (91 * bound + 70) (2 * (91 * bound + 70)) 1 (left_in_noise (row_of rate).modulation) bits (λ _. one) (estimate_of (received first) (received second)) (received symbol)
+      are long (noise_allows rate bound least) over
