@@ -1,14 +1,20 @@
 -- What stands at each edge is one thing, and is reported in one way.
-use Rattle.std.proofs.Common.{◌≡◌, ℕ, zero, suc, ◌+◌, ◌<◌, ◌≤◌, ◌∙◌, List, [], ◌∷◌, length, drop, pos, false, refl, sym, ap, arith, inl, inr}
+use Rattle.std.proofs.Common.{◌≡◌, ℕ, zero, suc, ◌+◌, ◌<◌, ◌≤◌, ◌∙◌, List, [], ◌∷◌, length, drop, pos, false, refl, sym, ap, arith, inl, inr, take, ◌++◌, append_assoc, true}
 use Rattle.std.proofs.lemmas.Bool.{cases_Bool, cases_lt}
-use Rattle.std.proofs.lemmas.List.{get_or_past}
+use Rattle.std.specs.Prelude.{Result}
+use Rattle.std.proofs.lemmas.List.{append-nil, get_or_past, length-take-le, take-append-drop}
 use Rattle.fixed_complex.specs.declared.Sample.{Sample}
 use Rattle.fixed_complex.specs.Samples.{sample_at}
+use Rattle.rate_table.specs.declared.Rate.TheVariants.{R6}
+use Rattle.signal_field.specs.declared.Header.{Header}
+use Rattle.signal_field.specs.declared.HeaderFault.{HeaderFault}
 use Rattle.lane_kernels.specs.Kernels.{is_loud}
 use Rattle.frame_search.specs.Edges.{IsEdge, IsNextEdge, NoEdge}
 use Rattle.frame_search.specs.Match.{matches, part}
 use Rattle.frame_search.proofs.Runs.{edge_or_not}
 use Rattle.frame_reader.specs.Decisions.{plain_decisions}
+use Rattle.frame_reader.specs.Frames.{SaysHeader}
+use Rattle.frame_reader.proofs.Fronts.{decisions_front, part_front}
 use Rattle.frame_reader.proofs.Readings.{one_header, some_header}
 use Rattle.frame_findings.specs.declared.EdgeReport.{EdgeReport}
 use Rattle.frame_findings.specs.declared.Finding.{Finding}
@@ -92,3 +98,49 @@ some_list capture (suc left) from all =
 
 pub some_reports : SomeReports
 some_reports capture = some_list capture (length capture) 0 (omega arith)
+
+-- the first 400 samples say what all do
+record SaysTheSame (xs samples : List Sample) : Type 0 where
+  like : matches (part samples 0 320) ≡ matches (part xs 0 320)
+  signal : plain_decisions samples R6 0 ≡ plain_decisions xs R6 0
+
+first_400 : (xs samples : List Sample) → samples ≡ take 400 xs → 400 ≤ length xs → SaysTheSame xs samples
+first_400 xs samples is long =
+    let both = take-append-drop 400 xs in
+    let front : length (take 400 xs) ≡ 400 = length-take-le 400 xs long in
+    record {
+      like = ap (λ list. matches (part list 0 320)) is ∙ ap matches (sym (part_front (take 400 xs) (drop 400 xs) 0 320 (omega arith))) ∙ ap (λ list. matches (part list 0 320)) both;
+      signal = ap (λ list. plain_decisions list R6 0) is ∙ sym (decisions_front (take 400 xs) (drop 400 xs) R6 0 (omega arith)) ∙ ap (λ list. plain_decisions list R6 0) both;
+    }
+
+pub finding_no_match : (xs samples : List Sample) → samples ≡ take 400 xs → 400 ≤ length xs → matches (part samples 0 320) ≡ false → IsFinding xs NoMatch
+finding_no_match xs samples is long unlike =
+    let same = first_400 xs samples is long in
+    no_match long (sym same.like ∙ unlike) refl
+
+pub finding_header : (xs samples : List Sample) (read : Result Header HeaderFault) (finding : Finding) → samples ≡ take 400 xs → 400 ≤ length xs
+    → matches (part samples 0 320) ≡ true → SaysHeader (plain_decisions samples) read → finding ≡ finding_of read → IsFinding xs finding
+finding_header xs samples read finding is long like says made =
+    let same = first_400 xs samples is long in
+    let signal = same.signal in
+    header long (sym same.like ∙ like) read (rw signal at says) made
+
+-- one report more
+pub report_next : (capture : List Sample) (from : ℕ) (reports : List EdgeReport) (report : EdgeReport)
+    → ((rest : List EdgeReport) → AreReports capture from rest → AreReports capture 0 (reports ++ rest)) → IsNextEdge capture from report.place
+    → IsFinding (drop report.place capture) report.finding → (rest : List EdgeReport) → AreReports capture (report.place + 1) rest
+    → AreReports capture 0 ((reports ++ report ∷ []) ++ rest)
+report_next capture from reports report reported next finding rest behind =
+    let all = reported (report ∷ rest) (next, finding, behind) in
+    rw append_assoc all
+
+-- and none
+pub report_none : (capture : List Sample) (from : ℕ) (reports : List EdgeReport) → ((rest : List EdgeReport) → AreReports capture from rest → AreReports capture 0 (reports ++ rest))
+    → NoEdge capture from (length capture) → AreReports capture 0 reports
+report_none capture from reports reported none =
+    let all = reported [] none in
+    rw append-nil at all
+
+-- an edge stands before the end
+pub next_within : (capture : List Sample) (from place : ℕ) → IsNextEdge capture from place → place < length capture
+next_within capture from place next = edge_within capture place next.edge

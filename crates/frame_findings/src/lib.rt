@@ -1,13 +1,17 @@
 //! The findings of a capture: all its frames, and at most one cut (own).
 #![tactic(auto)]
 
-ghost use Rattle.std.specs.Prelude.{◌≡◌};
+ghost use Rattle.std.specs.Prelude.{◌≡◌, [], ◌∷◌, ◌++◌, OnOk, OnErr};
 
 use bit_lists::Octets;
 use rate_table::Rate;
+use std::alloc::{AllocError, Global};
 use std::marker::Model;
 
+mod inspection;
 pub mod laws;
+
+pub use inspection::inspect;
 
 /// A frame that was heard: the place of its first sample, what its header says, the number that names the front of its
 /// field, 0 to 127, and its PSDU (own).
@@ -48,6 +52,24 @@ impl Model for HeardList {
 }
 
 impl HeardList {
+    /// No frames. Takes no memory.
+    pub fn new(alloc: Global) -> HeardList
+        ensures { result ≡ [] }
+    {
+        HeardList {
+            items: Vec::new(alloc),
+        }
+    }
+
+    /// One frame more, behind the others. The only error is want of memory, and then they are as before.
+    pub fn push(&mut self, heard: Heard) -> Result<(), AllocError>
+        ensures ok { OnOk result (self.new ≡ self.old ++ heard ∷ []) }
+        ensures err { OnErr result (self.new ≡ self.old) }
+    {
+        self.items.push(heard)?;
+        Ok(())
+    }
+
     /// The frames, in order. Takes no memory.
     pub fn as_slice(&self) -> &[Heard]
         ensures { result.now ≡ self.now }

@@ -2,12 +2,18 @@
 use Rattle.std.proofs.Common.{◌≡◌, ℕ, zero, suc, ◌+◌, ◌*◌, ◌≤◌, ◌∙◌, List, [], ◌∷◌, ◌++◌, length, take, drop, ap, sym, refl, arith}
 use Rattle.std.proofs.lemmas.List.{drop-append-le, length-drop, take-append-le}
 use Rattle.std.proofs.lemmas.Grind.{flat_map-append}
-use Rattle.std.proofs.lemmas.List.{append-nil}
+use Rattle.std.proofs.lemmas.List.{append-nil, length-append}
 use Rattle.std.specs.List.{flat_map, range_with_len}
+use Rattle.std.specs.Prelude.{slice_index}
+use Rattle.std.proofs.Math.Nat.{suc-mul}
+use Rattle.std.proofs.lemmas.List.FromFn.{length-map-range_with_len}
 use Rattle.fixed_complex.specs.declared.Sample.{Sample}
 use Rattle.rate_table.specs.declared.Rate.{Rate}
 use Rattle.rate_table.specs.declared.Rate.TheVariants.{R6}
 use Rattle.signal_field.specs.declared.Header.{Header}
+use Rattle.rate_table.specs.Table.{row_of}
+use Rattle.interleave_two.specs.Place.{interleaved_place}
+use Rattle.carrier_equaliser.specs.Decided.{interleaved_decisions}
 use Rattle.carrier_equaliser.specs.Received.{received}
 use Rattle.carrier_equaliser.specs.Estimates.{estimate_of}
 use Rattle.frame_search.specs.Match.{part}
@@ -80,3 +86,16 @@ opens_back xs ys header within opens =
     let front = part_front xs ys 0 320 (omega arith) in
     let signal = decisions_front xs ys R6 0 (omega arith) in
     record { like = rw front at opens.like; says = rw signal at opens.says }
+
+-- how many decisions the first so many DATA symbols have
+pub length-data : (samples : List Sample) (rate : Rate) (n : ℕ) → length (data_decisions (plain_decisions samples) rate n) ≡ n * (row_of rate).coded_bits
+unfolding plain_decisions decisions_of
+length-data samples rate zero = let none : 0 * (row_of rate).coded_bits ≡ 0 = omega arith in ap length (data_none (plain_decisions samples) rate) ∙ sym none
+length-data samples rate (suc n) =
+    let next : suc n ≡ n + 1 = omega arith in
+    let symbol = length-map-range_with_len (λ k. slice_index (interleaved_decisions rate (estimate_from samples) (received (body_of samples (n + 1)))) (interleaved_place rate k)) 0
+    (row_of rate).coded_bits in
+    let before = length-data samples rate n in
+    let both = ap length (ap (data_decisions (plain_decisions samples) rate) next ∙ data_more (plain_decisions samples) rate n)
+    ∙ length-append (data_decisions (plain_decisions samples) rate n) (plain_decisions samples rate (n + 1)) in
+    both ∙ ap (λ k. k + length (plain_decisions samples rate (n + 1))) before ∙ ap (λ k. n * (row_of rate).coded_bits + k) symbol ∙ sym (suc-mul n (row_of rate).coded_bits)

@@ -40,8 +40,8 @@ fn run_start(place: usize) -> usize
     place.saturating_sub(16)
 }
 
-// Whether a sample is loud.
-fn is_loud(sample: Sample) -> bool
+/// Whether a sample is loud: a component is larger than 256 in size (own).
+pub fn is_loud(sample: Sample) -> bool
     ensures { result ≡ is_loud sample }
 {
     sample.i.unsigned_abs() > 256 || sample.q.unsigned_abs() > 256

@@ -1,0 +1,5 @@
+pub mod Kept
+pub mod Settling
+pub mod Growing
+pub mod Pushing
+pub mod Receptions

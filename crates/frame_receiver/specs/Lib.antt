@@ -1,0 +1,4 @@
+pub mod Faults
+pub mod Receiving
+pub mod Sound
+pub mod Tails
