@@ -20,7 +20,8 @@ abbrev pub ReceivedAtAnyScale : Type 0
 ReceivedAtAnyScale =
     (scale bound : ℕ) (wave : ℕ → Cx) (body : List Sample) (carriers : List Cx)
     → ((n : ℕ) → n < 64
-    → IsWithin (2 ^ 21 * (scale * bound)) (minus (multiple (pos (2 ^ 21 * scale)) (pair_at body n)) (wave n)))
+    → IsWithin (2 ^ 21 * (scale * bound))
+    (minus (multiple (pos (2 ^ 21 * scale)) (pair_at body n)) (wave n)))
     → AreNearPlainSums 40 carriers body → (bin : ℕ) → bin < 64
     → IsOfSize (scale * (2 ^ 21 * 59316417 + 64 * (2965821 * 1048577 * bound)))
     (minus (multiple (pos (2 ^ 41 * scale)) (entry carriers bin)) (plain_down wave bin))

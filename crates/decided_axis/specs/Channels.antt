@@ -29,7 +29,8 @@ size_of_point Qam16 = 870
 size_of_point Qam64 = 990
 
 -- over a channel of at least a size a carrier that was sent is received, and the channel is estimated, to within errors
-pub record IsOver (scale carried estimated least : ℕ) (channel sent received estimate : Cx) : Type 0 where
+pub record IsOver (scale carried estimated least : ℕ) (channel sent received estimate : Cx)
+    : Type 0 where
   pub carries : IsCarried scale carried channel sent received
   pub estimates : IsEstimated scale estimated channel estimate
   pub large : IsAtLeastOfSize least channel
@@ -39,4 +40,5 @@ pub record IsOver (scale carried estimated least : ℕ) (channel sent received e
 pub record Allows (modulation : Modulation) (scale carried estimated least left : ℕ) : Type 0 where
   pub some : 0 < scale
   pub leaves : scale * left + scale * estimated < 41472 * least
-  pub enough : 1296 * carried + size_of_point modulation * estimated < amplitude_of modulation * left
+  pub enough : 1296 * carried + size_of_point modulation * estimated
+      < amplitude_of modulation * left

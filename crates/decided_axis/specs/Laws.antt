@@ -56,6 +56,7 @@ SymbolDecided =
     (estimate symbol : List Cx) → AreBits bits → length bits ≡ (row_of rate).coded_bits
     → Allows (row_of rate).modulation scale carried estimated least left
     → ((number : ℕ) → number < 48
-    → IsOver scale carried estimated least (channel number) (entry (points_of_code rate bits) number)
+    → IsOver scale carried estimated least (channel number)
+    (entry (points_of_code rate bits) number)
     (entry symbol (data_bin number)) (entry estimate (data_bin number)))
     → deinterleaved rate (interleaved_decisions rate estimate symbol) ≡ bits

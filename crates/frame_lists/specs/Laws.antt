@@ -16,14 +16,17 @@ SilentBefore =
 -- so there is before the start of the first frame
 abbrev pub SilentUpToStart : Type 0
 SilentUpToStart =
-    (bound : SentFrame → ℕ) (quiet least samples : ℕ) (frame : SentFrame) (frames : List SentFrame) (place : ℕ)
+    (bound : SentFrame → ℕ) (quiet least samples : ℕ) (frame : SentFrame)
+    (frames : List SentFrame) (place : ℕ)
     → StandFrom least samples (frame ∷ frames) → place < frame.start
-    → waveform_at (frame ∷ frames) place ≡ zero_pair × bound_at bound quiet (frame ∷ frames) place ≡ quiet
+    → waveform_at (frame ∷ frames) place ≡ zero_pair
+    × bound_at bound quiet (frame ∷ frames) place ≡ quiet
 
 -- in the first frame there is its waveform alone
 abbrev pub OneWaveform : Type 0
 OneWaveform =
-    (bound : SentFrame → ℕ) (quiet least samples : ℕ) (frame : SentFrame) (frames : List SentFrame) (time : ℕ)
+    (bound : SentFrame → ℕ) (quiet least samples : ℕ) (frame : SentFrame)
+    (frames : List SentFrame) (time : ℕ)
     → StandFrom least samples (frame ∷ frames) → time < samples_of frame
     → waveform_at (frame ∷ frames) (frame.start + time) ≡ entry (plain_of frame) time
     × bound_at bound quiet (frame ∷ frames) (frame.start + time) ≡ bound frame
@@ -39,7 +42,8 @@ OthersBehind =
 -- what is near frames is near them within larger bounds, too
 abbrev pub BoundsMayGrow : Type 0
 BoundsMayGrow =
-    (bound larger : SentFrame → ℕ) (quiet louder : ℕ) (capture : List Sample) (frames : List SentFrame)
+    (bound larger : SentFrame → ℕ) (quiet louder : ℕ) (capture : List Sample)
+    (frames : List SentFrame)
     → ((frame : SentFrame) → bound frame ≤ larger frame) → quiet ≤ louder
     → AreNear bound quiet capture frames → AreNear larger louder capture frames
 

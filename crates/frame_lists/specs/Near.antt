@@ -35,7 +35,9 @@ end_of_sent frame = frame.start + samples_of frame
 abbrev pub StandFrom : ℕ → ℕ → List SentFrame → Type 0
 StandFrom least samples [] = ⊤
 StandFrom least samples (frame ∷ frames) =
-    least ≤ frame.start × end_of_sent frame ≤ samples × StandFrom (end_of_sent frame + 16) samples frames
+    least ≤ frame.start
+    × end_of_sent frame ≤ samples
+    × StandFrom (end_of_sent frame + 16) samples frames
 
 -- a waveform shifted by a start: (0, 0) before it and behind its end
 unfoldable pub shifted : ℕ → List Cx → ℕ → Cx
@@ -44,7 +46,8 @@ shifted start plain place = if nat_lt place start then zero_pair else entry plai
 -- the sum of the waveforms of frames, each shifted by its start
 unfoldable pub waveform_at : List SentFrame → ℕ → Cx
 waveform_at [] place = zero_pair
-waveform_at (frame ∷ frames) place = plus (shifted frame.start (plain_of frame) place) (waveform_at frames place)
+waveform_at (frame ∷ frames) place =
+    plus (shifted frame.start (plain_of frame) place) (waveform_at frames place)
 
 -- whether a place is one of a frame's
 abbrev pub has_place : SentFrame → ℕ → Bool
@@ -58,8 +61,10 @@ bound_at bound quiet (frame ∷ frames) place =
 
 -- frames stand in a capture, and at each of its places each component is within the bound there of the sum of their
 -- waveforms
-pub record AreNear (bound : SentFrame → ℕ) (quiet : ℕ) (capture : List Sample) (frames : List SentFrame) : Type 0 where
+pub record AreNear (bound : SentFrame → ℕ) (quiet : ℕ) (capture : List Sample)
+    (frames : List SentFrame) : Type 0 where
   pub some : 0 < length frames
   pub stand : StandFrom 0 (length capture) frames
   pub near : (place : ℕ) → place < length capture
-      → IsNearPlain (bound_at bound quiet frames place) (sample_at capture place) (waveform_at frames place)
+      → IsNearPlain (bound_at bound quiet frames place) (sample_at capture place)
+      (waveform_at frames place)

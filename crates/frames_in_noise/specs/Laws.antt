@@ -46,7 +46,8 @@ pub record BeginsNear (bound : ℕ) (samples : List Sample) (frame : SentFrame) 
 -- samples that begin within the noise bound of a frame are opened by it, and have its seed and its PSDU as field
 abbrev pub FrameIsRead : Type 0
 FrameIsRead =
-    (bound : ℕ) (samples : List Sample) (frame : SentFrame) → IsFrame frame → bound ≤ noise_bound_of frame
+    (bound : ℕ) (samples : List Sample) (frame : SentFrame) → IsFrame frame
+    → bound ≤ noise_bound_of frame
     → BeginsNear bound samples frame
     → Opens samples (sent_header frame.rate frame.psdu)
     × HasField (plain_decisions samples) (sent_header frame.rate frame.psdu) frame.seed frame.psdu
@@ -61,7 +62,8 @@ NoiseIsWithstood =
 -- and it has no other findings
 abbrev pub NothingElseIsFound : Type 0
 NothingElseIsFound =
-    (capture : List Sample) (frames : List SentFrame) (heard : List Heard) (cut : Option Cut) → All IsFrame frames
+    (capture : List Sample) (frames : List SentFrame) (heard : List Heard) (cut : Option Cut)
+    → All IsFrame frames
     → AreNear noise_bound_of 64 capture frames → AreFindings capture heard cut
     → (heard ≡ map heard_of frames) × (cut ≡ None)
 

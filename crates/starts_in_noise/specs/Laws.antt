@@ -12,16 +12,19 @@ use Rattle.frame_search.specs.Match.{matches}
 -- 320 samples within 64 of the plain training fields match them
 abbrev pub PreambleMatches : Type 0
 PreambleMatches =
-    (bound : ℕ) (samples : List Sample) → bound ≤ 64 → AreNearPlain bound samples (preamble_of plain_body)
+    (bound : ℕ) (samples : List Sample) → bound ≤ 64
+    → AreNearPlain bound samples (preamble_of plain_body)
     → matches samples ≡ true
 
 -- and the first of them is loud
 abbrev pub PreambleIsLoud : Type 0
 PreambleIsLoud =
-    (bound : ℕ) (samples : List Sample) → bound ≤ 64 → AreNearPlain bound samples (preamble_of plain_body)
+    (bound : ℕ) (samples : List Sample) → bound ≤ 64
+    → AreNearPlain bound samples (preamble_of plain_body)
     → is_loud (sample_at samples 0) ≡ true
 
 -- a sample within 64 of silence is quiet
 abbrev pub SilenceIsQuiet : Type 0
 SilenceIsQuiet =
-    (bound : ℕ) (sample : Sample) → bound ≤ 64 → IsNearPlain bound sample zero_pair → is_loud sample ≡ false
+    (bound : ℕ) (sample : Sample) → bound ≤ 64 → IsNearPlain bound sample zero_pair
+    → is_loud sample ≡ false
