@@ -1,5 +1,6 @@
 -- What words and the bytes of the input come to (own).
 use Rattle.std.specs.Prelude.{ℕ, ◌≡◌, ◌⊎◌, List, Option, IfSome}
+use Rattle.capture_files.specs.Captures.{samples_in}
 use Rattle.modem_links.specs.Frames.{sent_bytes}
 use Rattle.report_lines.specs.declared.Refusal.{Refusal}
 use Rattle.report_lines.specs.declared.Status.{Status}
@@ -7,13 +8,14 @@ use Rattle.report_lines.specs.declared.Status.TheVariants as status
 use Rattle.report_lines.specs.Refusals.{status_of}
 use Rattle.command_words.specs.declared.Command.{Command}
 use Rattle.command_words.specs.declared.Request.{Request}
-use Rattle.command_words.specs.declared.Request.TheVariants.{Bits, Decode, Send, Noise, Show}
+use Rattle.command_words.specs.declared.Request.TheVariants.{Bits, Decode, Send, Noise, Inspect, Show}
 use Rattle.command_words.specs.declared.Stage.TheVariants.{Kept}
 use Rattle.command_words.specs.Asking.{AreRefusedFor, AskFor, command_of}
 use Rattle.frame_stages.specs.Stages.{stage_text_of}
 use Rattle.command_answers.specs.Answers.{noisy_bytes}
+use Rattle.command_answers.specs.Receiving.{HasReports}
 use Rattle.command_answers.specs.Decoding.{DecodeOutcome}
-use Rattle.command_answers.specs.InOrder.{Outcome, Refuses, Writes}
+use Rattle.command_answers.specs.InOrder.{Answers, Outcome, Refuses, Writes}
 use Rattle.command_answers.specs.Inputs.{OfInput, ReadsToEnd, accepted, reads, taken}
 
 -- the outcome of a request and what was read
@@ -22,6 +24,7 @@ AnswerOf (Bits rate seed) read outcome = outcome ≡ Writes (stage_text_of Kept 
 AnswerOf (Decode rate octets) read outcome = DecodeOutcome rate octets read outcome
 AnswerOf (Send rate seed) read outcome = outcome ≡ Writes (sent_bytes rate seed read)
 AnswerOf (Noise items) read outcome = outcome ≡ Writes (noisy_bytes items read)
+AnswerOf Inspect read outcome = Answers (HasReports (samples_in read)) outcome
 AnswerOf (Show stage rate seed) read outcome = outcome ≡ Writes (stage_text_of stage rate seed read)
 
 -- the outcome of a request and the bytes of the input

@@ -7,6 +7,7 @@ ghost use Rattle.command_answers.specs.Inputs.{IsAccepted, reads};
 ghost use Rattle.command_answers.specs.Outcome.{AnswerOf};
 ghost use Rattle.command_words.specs.Asking.{command_of};
 ghost use Rattle.command_words.specs.Grammar.{IsInRange};
+ghost use Rattle.command_answers.specs.Receiving.{HasReports};
 ghost use Rattle.modem_ports.specs.Counts.{Rose};
 ghost use Rattle.modem_ports.specs.Limits.{most_input};
 ghost use Rattle.modem_ports.specs.Told.{Takes, TakesPrefix};
@@ -16,7 +17,9 @@ ghost use Rattle.report_lines.specs.Refusals.{answering, step_of};
 use crate::decoding::decoded;
 use capture_files::{samples_of, write_samples};
 use command_words::{Request, Stage};
+use finding_lines::reports_text;
 use fixed_complex::Sample;
+use frame_findings::inspect;
 use frame_stages::stage_text;
 use modem_links::frame_samples;
 use modem_ports::{Failed, Sink, Steps, write_all};
@@ -57,6 +60,7 @@ pub fn answer_of(
             Ok(Answer::Samples(frame_samples(alloc, rate, seed, input)?))
         }
         Request::Noise { script } => Ok(Answer::Samples(noisy_samples(alloc, &script, input)?)),
+        Request::Inspect => Ok(Answer::Bytes(edges_text(alloc, input, steps)?)),
         Request::Show { stage, rate, seed } => {
             Ok(Answer::Bytes(stage_text(alloc, stage, rate, seed, input)?))
         }
@@ -73,6 +77,17 @@ fn noisy_samples(alloc: Global, script: &Script, capture: &[u8]) -> Result<Vec<S
     let mut samples = samples_of(alloc, capture)?;
     script.apply(&mut samples)?;
     Ok(samples)
+}
+
+// The text of the reports on all edges of a capture.
+fn edges_text(alloc: Global, capture: &[u8], steps: &mut Steps) -> Result<Vec<u8>, AllocError>
+    requires whole { length capture.now % 4 ≡ 0 }
+    requires most { length capture.now ≤ most_input }
+    ensures { IfOk result (λ text. HasReports (samples_in capture.now) text.items) }
+{
+    let samples = samples_of(alloc, capture)?;
+    let reports = inspect(alloc, &samples, steps)?;
+    reports_text(alloc, &reports)
 }
 
 /// Writes the bytes of an answer to a sink (own). Takes no memory.

@@ -34,7 +34,7 @@ impl Reading {
         match request {
             Request::Bits { .. } | Request::Send { .. } | Request::Show { .. } => Reading::Psdu,
             Request::Decode { .. } => Reading::Bytes,
-            Request::Noise { .. } => Reading::Capture,
+            Request::Noise { .. } | Request::Inspect => Reading::Capture,
         }
     }
 }

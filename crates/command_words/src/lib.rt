@@ -52,6 +52,8 @@ pub enum Command {
     },
     /// `noise SCRIPT`, whatever the text is that stands for the script.
     Noise,
+    /// `inspect`
+    Inspect,
     /// `show STAGE RATE SEED`
     Show {
         stage: Stage,
@@ -82,6 +84,8 @@ pub enum Request {
     Noise {
         script: Script,
     },
+    /// A line for each edge of a capture.
+    Inspect,
     /// The text of a stage.
     Show {
         stage: Stage,

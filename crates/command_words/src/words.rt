@@ -1,5 +1,5 @@
 //! Reading of the words.
-ghost use Rattle.std.specs.Prelude.{◌≡◌, [], ◌∷◌, IfSome, IfNone};
+ghost use Rattle.std.specs.Prelude.{◌≡◌, ◌≢◌, [], ◌∷◌, length, IfSome, IfNone};
 ghost use Rattle.command_words.specs.Grammar.{NamesNoStage, Say, SayNothing, stage_word, texts_of};
 
 use crate::numbers::{read_length, read_rate, read_seed};
@@ -15,9 +15,33 @@ pub fn read_words(words: &Vec<String>) -> Option<Command>
     ensures none { IfNone result (SayNothing (texts_of words.now)) }
 {
     match words.as_slice() {
+        [name] => read_one(name.as_str()),
         [name, text] => read_two(name.as_str(), text.as_str()),
+        _ => read_longer(words),
+    }
+}
+
+// The command of more than two words, or of none.
+fn read_longer(words: &Vec<String>) -> Option<Command>
+    requires one { length words.now.items ≢ 1 }
+    requires two { length words.now.items ≢ 2 }
+    ensures command { IfSome result (Say (texts_of words.now)) }
+    ensures none { IfNone result (SayNothing (texts_of words.now)) }
+{
+    match words.as_slice() {
         [name, a, b] => read_three(name.as_str(), a.as_str(), b.as_str()),
         [name, a, b, c] => read_four(name.as_str(), a.as_str(), b.as_str(), c.as_str()),
+        _ => None,
+    }
+}
+
+// The command of one word.
+fn read_one(name: &str) -> Option<Command>
+    ensures command { IfSome result (Say (name.now ∷ [])) }
+    ensures none { IfNone result (SayNothing (name.now ∷ [])) }
+{
+    match name {
+        "inspect" => Some(Command::Inspect),
         _ => None,
     }
 }

@@ -570,3 +570,72 @@ fn decodes_over_ports_that_never_fail(rt: HostRuntime) -> Result<(), Fail> {
     assert!(rt; ended == Status::Ok);
     Ok(())
 }
+
+// The bytes of what a command line writes.
+fn written(alloc: Global, line: &str, input: &[u8]) -> Result<Vec<u8>, AllocError> {
+    let mut source = MemSource::open(alloc, input, 1000, &[])?;
+    let mut out = MemSink::open(alloc, ROOM, 4096, &[])?;
+    run_line(alloc, line, &mut source, &mut out)?;
+    Vec::from_slice(alloc, out.taken())
+}
+
+// The bytes of a capture after a script.
+fn after(alloc: Global, script: &str, input: &[u8]) -> Result<Vec<u8>, AllocError> {
+    let mut words = words_of(alloc, "noise")?;
+    words.push(String::from_str(alloc, script)?)?;
+    let mut source = MemSource::open(alloc, input, 1000, &[])?;
+    let mut out = MemSink::open(alloc, ROOM, 4096, &[])?;
+    let mut steps = Steps::new();
+    run(
+        alloc,
+        &words,
+        &mut source,
+        &mut out,
+        &mut Discard::new(),
+        &mut steps,
+    );
+    Vec::from_slice(alloc, out.taken())
+}
+
+#[test]
+fn inspects_captures(rt: HostRuntime) -> Result<(), Fail> {
+    let frame = written(rt.alloc(), "send 36 93", &a_hundred_octets())?;
+    let spiked = after(rt.alloc(), "lead 100; spike 40 30000 0", &frame)?;
+    let text = written(rt.alloc(), "inspect", &spiked)?;
+    assert!(rt;
+        text.as_slice()
+            .starts_with(b"edge 40 nomatch\nedge 100 header 36 100 0\n")
+    );
+    let rows: [(&[u8], &[u8]); 3] = [
+        (&[0xBA, 0x03, 0xBA, 0x03], b"edge 0 short\n"),
+        (&[0; 64], b""),
+        (b"", b""),
+    ];
+    for (capture, lines) in rows {
+        check(
+            &rt,
+            rt.alloc(),
+            &answers("inspect", capture, Out::Whole(lines)),
+        )?;
+    }
+    Ok(())
+}
+
+// A hundred loud samples 17 apart are edges all: 400 samples stand from 77 of them on.
+#[test]
+fn inspects_a_hostile_capture(rt: HostRuntime) -> Result<(), Fail> {
+    let mut capture = vec![in rt.alloc(); 0u8; 4 * 1700]?;
+    let mut lines = String::new(rt.alloc());
+    for k in 0..100usize {
+        capture[68 * k] = 0x2C;
+        capture[68 * k + 1] = 0x01;
+        let finding = if k < 77 { "nomatch" } else { "short" };
+        lines.push_str(&format!(in rt.alloc(); "edge {} {}\n", 17 * k, finding)?)?;
+    }
+    check(
+        &rt,
+        rt.alloc(),
+        &answers("inspect", &capture, Out::Whole(lines.as_bytes())),
+    )?;
+    Ok(())
+}
