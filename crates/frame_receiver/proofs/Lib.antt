@@ -3,3 +3,4 @@ pub mod Settling
 pub mod Growing
 pub mod Pushing
 pub mod Receptions
+mod Noise

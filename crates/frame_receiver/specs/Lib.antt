@@ -2,3 +2,4 @@ pub mod Faults
 pub mod Receiving
 pub mod Sound
 pub mod Tails
+pub mod Noise

@@ -1,8 +1,11 @@
 //! Whole captures are received.
-ghost use Rattle.std.specs.Prelude.{◌≡◌, ℕ, ◌+◌, ◌*◌, ◌<◌, ◌≤◌, ◌^◌, List, [], ◌∷◌, ◌++◌, length, None, Some, IfOk, OnOk, IsErrOf};
+ghost use Rattle.std.specs.Prelude.{◌≡◌, ℕ, ◌+◌, ◌*◌, ◌<◌, ◌≤◌, ◌^◌, List, [], ◌∷◌, ◌++◌, length, map, None, Some, IfOk, OnOk, IsErrOf};
 ghost use Rattle.fixed_complex.specs.declared.Sample.{Sample};
 ghost use Rattle.frame_findings.specs.declared.Heard.{Heard};
 ghost use Rattle.frame_findings.specs.Walk.{AreFindings};
+ghost use Rattle.frame_lists.specs.Near.{SentFrame};
+ghost use Rattle.frames_in_noise.specs.Laws.{heard_of};
+ghost use Rattle.frame_receiver.specs.Noise.{HasInNoise};
 ghost use Rattle.frame_receiver.specs.Receiving.{Stands};
 ghost use Rattle.frame_receiver.specs.Faults.{fault_of};
 ghost use Rattle.frame_receiver.specs.declared.reception.ReceiveFault.TheVariants.{CutFrame, NoFrame, NoMemory};
@@ -42,7 +45,8 @@ impl From<AllocError> for ReceiveFault {
 /// Receives all frames of a capture of at most 2^24 samples, and the cut that it ends in, if it does (own).
 ///
 /// `Ok` has the findings, of which the first is a frame. `NoFrame` comes exactly where there are none, and `CutFrame`
-/// exactly where the first is a cut. `NoMemory` is free. The count of steps rises by at most 32 for each sample, and 512,
+/// exactly where the first is a cut. `NoMemory` is free. Where the capture is near frames, each within the noise bound of
+/// its rate, in silence within 64, the answer is exactly these frames and no cut, or `NoMemory`. The count of steps rises by at most 32 for each sample, and 512,
 /// whatever the answer.
 pub fn receive(
     alloc: Global,
@@ -57,6 +61,13 @@ pub fn receive(
     ensures cut_frame { (start have need : ℕ) → IsErrOf result (CutFrame start have need)
         → AreFindings capture.now []
         (Some (record { start = start; have = have; need = need })) }
+    ensures in_noise { IfOk result (λ reception. (frames : List SentFrame)
+        → HasInNoise capture.now frames
+        → (reception.heard ≡ map heard_of frames) × (reception.cut ≡ None)) }
+    ensures some_in_noise { (frames : List SentFrame) → HasInNoise capture.now frames
+        → ¬ IsErrOf result NoFrame }
+    ensures whole_in_noise { (frames : List SentFrame) (start have need : ℕ)
+        → HasInNoise capture.now frames → ¬ IsErrOf result (CutFrame start have need) }
     ensures counted { steps.new ≤ steps.old + (32 * length capture.now + 512) }
 {
     let mut receiver = open_receiver(alloc)?;

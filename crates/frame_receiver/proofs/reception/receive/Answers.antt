@@ -3,6 +3,7 @@ use Rattle.std.proofs.lemmas.Bool.Decides.{nat_tests}
 use Rattle.std.proofs.lemmas.List.{take_all, take_more}
 use Rattle.frame_receiver.specs.declared.reception.ReceiveFault.TheVariants.{CutFrame, NoFrame}
 use Rattle.frame_receiver.proofs.Receptions.{cut_found, no_frames, nothing_found}
+use Rattle.frame_receiver.proofs.Noise.{found_in_noise, some_in_noise}
 use Rattle.frame_receiver.proofs.reception.receive.Goals as goal
 
 pub loop-sample-preserved : goal.loop-sample-preserved
@@ -37,3 +38,12 @@ pub returns-clause-findings : goal.returns-clause-findings
 returns-clause-findings c =
     let whole : take c.loop-sample.sample-index c.args.capture.now ≡ c.args.capture.now = take_all _ _ (omega arith) in
     rw whole at (c.end-cut.ensures _ c.loop-sample.heard c.loop-sample.invariant.stands)
+
+pub returns-clause-in_noise : goal.returns-clause-in_noise
+returns-clause-in_noise c = λ frames has. found_in_noise c.args.capture.now frames _ _ has (returns-clause-findings c)
+
+pub returns-then-is_empty-clause-some_in_noise : goal.returns-then-is_empty-clause-some_in_noise
+returns-then-is_empty-clause-some_in_noise c = λ frames has is. some_in_noise c.args.capture.now frames _ has (returns-then-is_empty-clause-no_frame c is)
+
+pub returns-then-is_empty-clause-whole_in_noise : goal.returns-then-is_empty-clause-whole_in_noise
+returns-then-is_empty-clause-whole_in_noise c = λ frames start have need has is. some_in_noise c.args.capture.now frames _ has (returns-then-is_empty-clause-cut_frame c start have need is)
