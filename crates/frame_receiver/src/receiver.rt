@@ -9,7 +9,7 @@ ghost use Rattle.frame_reader.specs.Frames.{Opens, symbols_of};
 ghost use Rattle.frame_receiver.specs.Receiving.{Stands, TakesSymbol, heard_with};
 ghost use Rattle.frame_receiver.specs.Tails.{IsTailOf};
 ghost use Rattle.modem_ports.specs.Counts.{raised_by};
-ghost use Rattle.rate_table.specs.Symbols.{IsLength, bits_through_tail};
+ghost use Rattle.rate_table.specs.Symbols.{IsLength, bits_through_tail, most_octets};
 ghost use Rattle.rate_table.specs.Table.{row_of};
 ghost use Rattle.signal_field.specs.declared.Header.{Header};
 ghost use Rattle.viterbi_lanes.specs.Decisions.{carried_steps, marks_of};
@@ -185,9 +185,10 @@ impl Receiver {
         }
     }
 
-    /// The PSDU of the last frame that `push` answered; no octets before the first.
+    /// The PSDU of the last frame that `push` answered, of at most 4095 octets; no octets before the first.
     pub fn psdu(&self) -> &[u8]
-        ensures { result.now ≡ self.now.psdu }
+        ensures value { result.now ≡ self.now.psdu }
+        ensures short { length result.now ≤ most_octets }
     {
         &self.octets[..self.heard]
     }
