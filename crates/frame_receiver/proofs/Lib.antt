@@ -4,3 +4,4 @@ pub mod Growing
 pub mod Pushing
 pub mod Receptions
 mod Noise
+mod Answered

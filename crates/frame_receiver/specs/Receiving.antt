@@ -8,8 +8,9 @@ use Rattle.viterbi_lanes.specs.Decisions.{carried_steps, marks_of}
 use Rattle.viterbi_lanes.specs.Marks.{StandsFor}
 use Rattle.frame_reader.specs.Decisions.{estimate_from, plain_decisions}
 use Rattle.frame_reader.specs.Frames.{data_decisions, symbols_of}
+use Rattle.frame_findings.specs.declared.Cut.{Cut}
 use Rattle.frame_findings.specs.declared.Heard.{Heard}
-use Rattle.frame_findings.specs.Walk.{IsNextChosen, NoneChosen, Walks}
+use Rattle.frame_findings.specs.Walk.{AreFindings, IsNextChosen, NoneChosen, Walks}
 use Rattle.frame_receiver.specs.declared.receiver.At.{At}
 use Rattle.frame_receiver.specs.declared.receiver.Found.{Found}
 use Rattle.frame_receiver.specs.Tails.{IsTailOf, TailView}
@@ -87,3 +88,9 @@ frame_of found psdu = record {
 abbrev pub heard_with : List Heard → Option Found → List ℕ → List Heard
 heard_with heard None psdu = heard
 heard_with heard (Some found) psdu = heard ++ frame_of found psdu ∷ []
+
+-- with one sample more the frames among the findings of samples are those before, and the one that is found, if one is
+abbrev pub FramesGrow : List Sample → Sample → Option Found → List ℕ → Type 0
+FramesGrow samples sample found psdu =
+    (before after : List Heard) (cut end : Option Cut) → AreFindings samples before cut
+    → AreFindings (samples ++ sample ∷ []) after end → after ≡ heard_with before found psdu

@@ -1,13 +1,16 @@
 //! The receiver: a search, and the frames that it hears.
-ghost use Rattle.std.specs.Prelude.{◌≡◌, ℕ, ◌+◌, ◌-◌, ◌*◌, ◌<◌, ◌≤◌, ◌^◌, List, [], ◌∷◌, ◌++◌, length, drop, take, vec_len, IfSome, IfNone, Some};
+ghost use Rattle.std.specs.Prelude.{◌≡◌, ℕ, ◌+◌, ◌-◌, ◌*◌, ◌<◌, ◌≤◌, ◌^◌, List, [], ◌∷◌, ◌++◌, length, drop, map, take, vec_len, IfSome, IfNone, None, Some};
 ghost use Rattle.circular_buffer.specs.Buffer.{buffer, keep_last};
 ghost use Rattle.fixed_complex.specs.declared.Sample.{Sample};
 ghost use Rattle.frame_findings.specs.declared.Heard.{Heard};
 ghost use Rattle.frame_findings.specs.Walk.{AreFindings};
 ghost use Rattle.frame_reader.specs.Decisions.{decisions_of, estimate_from};
 ghost use Rattle.frame_reader.specs.Frames.{Opens, symbols_of};
-ghost use Rattle.frame_receiver.specs.Receiving.{Stands, TakesSymbol, heard_with};
+ghost use Rattle.frame_lists.specs.Near.{SentFrame};
+ghost use Rattle.frame_receiver.specs.Noise.{AreFirst, HasInNoise};
+ghost use Rattle.frame_receiver.specs.Receiving.{FramesGrow, Stands, TakesSymbol, heard_with};
 ghost use Rattle.frame_receiver.specs.Tails.{IsTailOf};
+ghost use Rattle.frames_in_noise.specs.Laws.{heard_of};
 ghost use Rattle.modem_ports.specs.Counts.{raised_by};
 ghost use Rattle.rate_table.specs.Symbols.{IsLength, bits_through_tail, most_octets};
 ghost use Rattle.rate_table.specs.Table.{row_of};
@@ -117,12 +120,21 @@ impl Receiver {
     /// Takes the next sample. `Some` exactly where it makes one more frame whole: that frame, whose PSDU is then `psdu`.
     /// Fewer than 2^24 samples came before.
     ///
+    /// Where the samples, or more that begin with them, are near frames, each within the noise bound of its rate, in silence
+    /// within 64, what was answered so far are the first of these frames, in order.
+    ///
     /// The count of steps rises by at most what `spent` rises by, and `spent` is at most 32 for each sample that came, and
     /// 512.
     pub fn push(&mut self, sample: Sample, steps: &mut Steps) -> Option<Found>
         requires { self.old.tail.count < 2 ^ 24 }
         ensures stands { (samples : List Sample) (heard : List Heard) → Stands self.old samples heard
             → Stands self.new (samples ++ sample ∷ []) (heard_with heard result self.new.psdu) }
+        ensures grows { (samples : List Sample) (heard : List Heard) → Stands self.old samples heard
+            → FramesGrow samples sample result self.new.psdu }
+        ensures in_noise { (samples more : List Sample) (heard : List Heard)
+            (frames : List SentFrame) → Stands self.old samples heard
+            → HasInNoise (samples ++ sample ∷ more) frames
+            → AreFirst (heard_with heard result self.new.psdu) frames }
         ensures count { self.new.tail.count ≡ self.old.tail.count + 1 }
         ensures counted { steps.new + self.old.spent ≤ steps.old + self.new.spent }
         ensures bounded { self.new.spent ≤ 32 * self.new.tail.count + 512 }
@@ -171,9 +183,18 @@ impl Receiver {
     }
 
     /// The cut in which the samples that came so far end, if they end in one. Samples may come after it.
+    ///
+    /// Where the samples are near frames, each within the noise bound of its rate, in silence within 64, what `push`
+    /// answered are exactly these frames, in order, and there is no cut.
     pub fn end(&self) -> Option<Cut>
-        ensures { (samples : List Sample) (heard : List Heard) → Stands self.now samples heard
-            → AreFindings samples heard result }
+        ensures findings { (samples : List Sample) (heard : List Heard)
+            → Stands self.now samples heard → AreFindings samples heard result }
+        ensures all_in_noise { (samples : List Sample) (heard : List Heard)
+            (frames : List SentFrame) → Stands self.now samples heard → HasInNoise samples frames
+            → heard ≡ map heard_of frames }
+        ensures none_in_noise { (samples : List Sample) (heard : List Heard)
+            (frames : List SentFrame) → Stands self.now samples heard → HasInNoise samples frames
+            → result ≡ None }
     {
         match self.at {
             None => None,

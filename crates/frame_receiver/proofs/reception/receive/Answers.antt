@@ -21,7 +21,7 @@ loop-sample-preserved c = record {
 pub returns-then-is_empty-clause-no_frame : goal.returns-then-is_empty-clause-no_frame
 returns-then-is_empty-clause-no_frame c = λ is.
     let whole : take c.loop-sample.sample-index c.args.capture.now ≡ c.args.capture.now = take_all _ _ (omega arith) in
-    let findings = rw whole at (c.end-cut.ensures _ c.loop-sample.heard c.loop-sample.invariant.stands) in
+    let findings = rw whole at (c.end-cut.ensures.findings _ c.loop-sample.heard c.loop-sample.invariant.stands) in
     let none : c.loop-sample.heard ≡ [] = no_frames c.loop-sample.heard (grind (arith, nat_tests, c.if-is_empty.ensures, c.if-is_empty.true, c.is_empty.ensures, c.as_slice.ensures)) in
     let fault : c.fault_of.result ≡ NoFrame = cc in
     nothing_found c.args.capture.now c.end-cut.result c.fault_of.result c.fault_of.ensures fault (rw none at findings)
@@ -29,7 +29,7 @@ returns-then-is_empty-clause-no_frame c = λ is.
 pub returns-then-is_empty-clause-cut_frame : goal.returns-then-is_empty-clause-cut_frame
 returns-then-is_empty-clause-cut_frame c = λ start have need is.
     let whole : take c.loop-sample.sample-index c.args.capture.now ≡ c.args.capture.now = take_all _ _ (omega arith) in
-    let findings = rw whole at (c.end-cut.ensures _ c.loop-sample.heard c.loop-sample.invariant.stands) in
+    let findings = rw whole at (c.end-cut.ensures.findings _ c.loop-sample.heard c.loop-sample.invariant.stands) in
     let none : c.loop-sample.heard ≡ [] = no_frames c.loop-sample.heard (grind (arith, nat_tests, c.if-is_empty.ensures, c.if-is_empty.true, c.is_empty.ensures, c.as_slice.ensures)) in
     let fault : c.fault_of.result ≡ CutFrame start have need = cc in
     cut_found c.args.capture.now c.end-cut.result c.fault_of.result start have need c.fault_of.ensures fault (rw none at findings)
@@ -37,7 +37,7 @@ returns-then-is_empty-clause-cut_frame c = λ start have need is.
 pub returns-clause-findings : goal.returns-clause-findings
 returns-clause-findings c =
     let whole : take c.loop-sample.sample-index c.args.capture.now ≡ c.args.capture.now = take_all _ _ (omega arith) in
-    rw whole at (c.end-cut.ensures _ c.loop-sample.heard c.loop-sample.invariant.stands)
+    rw whole at (c.end-cut.ensures.findings _ c.loop-sample.heard c.loop-sample.invariant.stands)
 
 pub returns-clause-in_noise : goal.returns-clause-in_noise
 returns-clause-in_noise c = λ frames has. found_in_noise c.args.capture.now frames _ _ has (returns-clause-findings c)

@@ -1,6 +1,8 @@
 use Rattle.std.proofs.Common.{◌≡◌, ◌+◌, ◌∙◌, [], ◌∷◌, ◌++◌, length, take, drop, arith, refl}
+use Rattle.std.specs.Prelude.{Some, None}
 use Rattle.frame_reader.specs.Decisions.{plain_decisions}
 use Rattle.frame_receiver.specs.declared.receiver.Found.{Found}
+use Rattle.frame_receiver.proofs.Answered.{first_in_noise, frames_grow}
 use Rattle.frame_receiver.proofs.Pushing.{all_pairs, front_read, goes_on_within, hears_frame, looks, no_edge_settles, searches, takes_symbol}
 use Rattle.frame_receiver.proofs.receiver.Receiver.push.Goals as goal
 use Rattle.frame_receiver.proofs.receiver.Receiver.push.Goals.{else-edge-via-then-edge+else-self-count, else-edge-via-else-edge}
@@ -71,3 +73,36 @@ returns-clause-stands c = λ samples heard stands.
     (λ pairs. c.finish_field-seed.ensures.field (plain_decisions (drop at.place (samples ++ c.args.sample ∷ [])))
     (all_pairs c.hear_last.new.trellis (plain_decisions (drop at.place (samples ++ c.args.sample ∷ []))) at c.symbols_in.result last c.symbols_in.ensures.value
     c.symbols_in.ensures.all pairs)) c.finish_field-seed.ensures.stands)
+
+pub returns-then-self-count-clause-grows : goal.returns-then-self-count-clause-grows
+returns-then-self-count-clause-grows c = λ samples heard stands. frames_grow _ _ samples _ heard None [] stands (returns-then-self-count-clause-stands c samples heard stands)
+
+pub returns-then-self-count-clause-in_noise : goal.returns-then-self-count-clause-in_noise
+returns-then-self-count-clause-in_noise c = λ samples more heard frames stands has. first_in_noise _ samples more _ heard frames (returns-then-self-count-clause-stands c samples heard stands) has
+
+pub returns-else-edge-clause-grows : goal.returns-else-edge-clause-grows
+returns-else-edge-clause-grows c = λ samples heard stands. frames_grow _ _ samples _ heard None [] stands (returns-else-edge-clause-stands c samples heard stands)
+
+pub returns-else-edge-clause-in_noise : goal.returns-else-edge-clause-in_noise
+returns-else-edge-clause-in_noise c = λ samples more heard frames stands has. first_in_noise _ samples more _ heard frames (returns-else-edge-clause-stands c samples heard stands) has
+
+pub returns-then-count-at-clause-grows : goal.returns-then-count-at-clause-grows
+returns-then-count-at-clause-grows c = λ samples heard stands. frames_grow _ _ samples _ heard None [] stands (returns-then-count-at-clause-stands c samples heard stands)
+
+pub returns-then-count-at-clause-in_noise : goal.returns-then-count-at-clause-in_noise
+returns-then-count-at-clause-in_noise c = λ samples more heard frames stands has. first_in_noise _ samples more _ heard frames (returns-then-count-at-clause-stands c samples heard stands) has
+
+pub returns-then-at-symbols_in-clause-grows : goal.returns-then-at-symbols_in-clause-grows
+returns-then-at-symbols_in-clause-grows c = λ samples heard stands. frames_grow _ _ samples _ heard None [] stands (returns-then-at-symbols_in-clause-stands c samples heard stands)
+
+pub returns-then-at-symbols_in-clause-in_noise : goal.returns-then-at-symbols_in-clause-in_noise
+returns-then-at-symbols_in-clause-in_noise c = λ samples more heard frames stands has. first_in_noise _ samples more _ heard frames (returns-then-at-symbols_in-clause-stands c samples heard stands) has
+
+pub returns-clause-grows : goal.returns-clause-grows
+returns-clause-grows c = λ samples heard stands.
+    let at = c.in-Some.at in
+    let found : Found = record { start = at.place; rate = at.header.rate; length = at.header.length; seed = c.finish_field-seed.result } in
+    frames_grow _ _ samples _ heard (Some found) _ stands (returns-clause-stands c samples heard stands)
+
+pub returns-clause-in_noise : goal.returns-clause-in_noise
+returns-clause-in_noise c = λ samples more heard frames stands has. first_in_noise _ samples more _ _ frames (returns-clause-stands c samples heard stands) has
