@@ -114,3 +114,50 @@ pub struct EdgeReport {
     pub place: u32,
     pub finding: Finding,
 }
+
+#[cfg(test)]
+mod tests {
+    use super::*;
+    use fixed_complex::Sample;
+    use modem_ports::Steps;
+    use std::test::Fail;
+
+    // Two loud samples in silence, of which the first has 400 samples behind it.
+    #[test]
+    fn edges_of_spikes(rt: HostRuntime) -> Result<(), Fail> {
+        let mut capture = [Sample { i: 0, q: 0 }; 420];
+        capture[3].i = 257;
+        capture[50].q = -257;
+        let reports = inspect(rt.alloc(), &capture, &mut Steps::new())?;
+        let wanted = [
+            EdgeReport {
+                place: 3,
+                finding: Finding::NoMatch,
+            },
+            EdgeReport {
+                place: 50,
+                finding: Finding::Short,
+            },
+        ];
+        assert_eq!(rt; reports.as_slice(), wanted.as_slice());
+        Ok(())
+    }
+
+    #[test]
+    fn frames_in_order(rt: HostRuntime) -> Result<(), Fail> {
+        let mut heard = HeardList::new(rt.alloc());
+        for start in [0u32, 896] {
+            heard.push(Heard {
+                start,
+                rate: Rate::R6,
+                length: 1,
+                seed: 93,
+                psdu: Octets::from_vec(Vec::new(rt.alloc())),
+            })?;
+        }
+        let heard = heard.as_slice();
+        assert!(rt; heard.len() == 2);
+        assert_eq!(rt; heard[1].start, 896);
+        Ok(())
+    }
+}

@@ -8,3 +8,6 @@ mod tail;
 
 pub use receiver::{Found, Receiver};
 pub use reception::{ReceiveFault, receive};
+
+#[cfg(test)]
+mod tests;

@@ -83,7 +83,7 @@ pub fn receive(
 }
 
 // A receiver before its first sample. The only error is want of memory.
-fn open_receiver(alloc: Global) -> Result<Receiver, AllocError>
+pub(crate) fn open_receiver(alloc: Global) -> Result<Receiver, AllocError>
     ensures stands { IfOk result (λ receiver. Stands receiver [] []) }
     ensures none { IfOk result (λ receiver. receiver.tail.count ≡ 0) }
     ensures spent { IfOk result (λ receiver. receiver.spent ≡ 0) }
