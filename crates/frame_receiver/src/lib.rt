@@ -10,4 +10,6 @@ pub use receiver::{Found, Receiver};
 pub use reception::{ReceiveFault, receive};
 
 #[cfg(test)]
+mod noise_tests;
+#[cfg(test)]
 mod tests;
