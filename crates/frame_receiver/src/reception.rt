@@ -45,9 +45,11 @@ impl From<AllocError> for ReceiveFault {
 /// Receives all frames of a capture of at most 2^24 samples, and the cut that it ends in, if it does (own).
 ///
 /// `Ok` has the findings, of which the first is a frame. `NoFrame` comes exactly where there are none, and `CutFrame`
-/// exactly where the first is a cut. `NoMemory` is free. Where the capture is near frames, each within the noise bound of
-/// its rate, in silence within 64, the answer is exactly these frames and no cut, or `NoMemory`. The count of steps rises by at most 32 for each sample, and 512,
+/// exactly where the first is a cut. `NoMemory` is free. The count of steps rises by at most 32 for each sample, and 512,
 /// whatever the answer.
+///
+/// Where the capture is near frames, each within the noise bound of its rate, in silence within 64, the answer is exactly
+/// these frames and no cut, or `NoMemory`.
 pub fn receive(
     alloc: Global,
     capture: &[Sample],
