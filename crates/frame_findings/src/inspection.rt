@@ -1,5 +1,5 @@
 //! What stands at each edge of a capture.
-ghost use Rattle.std.specs.Prelude.{◌≡◌, ◌+◌, ◌^◌, ◌<◌, ◌≤◌, length, drop, take, IfOk};
+ghost use Rattle.std.specs.Prelude.{◌≡◌, ◌+◌, ◌*◌, ◌^◌, ◌<◌, ◌≤◌, length, drop, take, IfOk};
 ghost use Rattle.frame_findings.specs.Reports.{AreReports, IsFinding, finding_of};
 
 use crate::{EdgeReport, Finding};
@@ -15,14 +15,17 @@ use viterbi_lanes::Trellis;
 const SILENCE: Sample = Sample { i: 0, q: 0 };
 
 /// One report for each edge of a capture, in order, also for those within frames: what stands there (own). The capture
-/// has at most 2^24 samples. The only error is want of memory.
+/// has at most 2^24 samples. The count of steps rises by at most one for each sample, and 347 for each edge. The only
+/// error is want of memory.
 pub fn inspect(
     alloc: Global,
     capture: &[Sample],
     steps: &mut Steps,
 ) -> Result<Vec<EdgeReport>, AllocError>
     requires { length capture.now ≤ 2 ^ 24 }
-    ensures { IfOk result (λ reports. AreReports capture.now 0 reports.items) }
+    ensures reports { IfOk result (λ reports. AreReports capture.now 0 reports.items) }
+    ensures counted { IfOk result (λ reports. steps.new
+        ≤ steps.old + length capture.now + 347 * length reports.items) }
 {
     let mut trellis = Trellis::open(alloc, 24)?;
     let mut reports = Vec::new(alloc);
@@ -45,6 +48,7 @@ fn finding_at(capture: &[Sample], place: usize, trellis: &mut Trellis, steps: &m
     requires room { trellis.old.room ≡ 24 }
     ensures finding { IsFinding (drop place capture.now) result }
     ensures room { trellis.new.room ≡ 24 }
+    ensures counted { steps.new ≤ steps.old + 347 }
 {
     if capture.len() - place < 400 {
         return Finding::Short;

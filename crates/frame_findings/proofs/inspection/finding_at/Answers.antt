@@ -1,4 +1,4 @@
-use Rattle.std.proofs.Common.{◌≡◌, ◌+◌, ◌-◌, ◌∙◌, length, drop, take, ap, arith}
+use Rattle.std.proofs.Common.{◌≡◌, ◌+◌, ◌-◌, ◌∙◌, drop, take, ap, arith}
 use Rattle.std.proofs.lemmas.List.{length-drop}
 use Rattle.frame_findings.proofs.Reporting.{finding_header, finding_no_match}
 use Rattle.frame_findings.proofs.inspection.finding_at.Goals as goal
