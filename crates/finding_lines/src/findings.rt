@@ -1,5 +1,5 @@
 //! The text of `receive`, in room that is taken before.
-ghost use Rattle.std.specs.Prelude.{◌≡◌, ◌+◌, ◌*◌, ◌≤◌, ◌++◌, [], decimal, length, IfOk};
+ghost use Rattle.std.specs.Prelude.{◌≡◌, ◌↔◌, ◌+◌, ◌*◌, ◌≤◌, ◌++◌, [], decimal, length, IfOk, IsTrue};
 ghost use Rattle.finding_lines.specs.Lines.{cut_line, frame_line, most_text, spaced};
 ghost use Rattle.hex.specs.Hex.{encode_lower};
 ghost use Rattle.rate_table.specs.Symbols.{most_octets};
@@ -78,6 +78,13 @@ impl Lines {
         self.put_spaced(cut.have);
         self.put_number(cut.need);
         self.put(b"\n");
+    }
+
+    /// Whether there are no lines. Takes no memory.
+    pub fn is_empty(&self) -> bool
+        ensures { IsTrue result ↔ (length self.now ≡ 0) }
+    {
+        self.text.is_empty()
     }
 
     /// The text as a vector. Takes no memory.

@@ -1,0 +1,3 @@
+mod Ending
+mod FromSource
+mod OneByte
