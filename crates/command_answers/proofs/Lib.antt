@@ -3,3 +3,4 @@ pub mod Inputs
 mod OfText
 pub mod Outcomes
 mod Flipped
+mod Received

@@ -1,26 +1,31 @@
 -- The outcome of words and bytes: there is one, and no other.
-use Rattle.std.proofs.Common.{◌≡◌, ◌≢◌, inl, inr, ℕ, List, [], Option, Some, None, refl, sym, ap, subst, ◌∙◌}
+use Rattle.std.proofs.Common.{◌≡◌, ◌≢◌, ◌⊎◌, inl, inr, Result, Ok, Err, ℕ, List, [], ◌∷◌, Option, Some, None, refl, sym, ap, subst, ◌∙◌}
 use Rattle.std.specs.Option.{IfSome}
 use Rattle.capture_files.specs.Captures.{samples_in}
 use Rattle.finding_lines.specs.Lines.{text_of_reports}
 use Rattle.fixed_complex.specs.declared.Sample.{Sample}
-use Rattle.frame_findings.specs.Laws.{OneReports, SomeReports}
-use Rattle.command_answers.specs.Receiving.{HasReports}
+use Rattle.capture_hearing.specs.Received.{received_of}
+use Rattle.frame_findings.specs.declared.Cut.{Cut}
+use Rattle.frame_findings.specs.declared.Heard.{Heard}
+use Rattle.frame_findings.specs.Laws.{OneFindings, OneReports, SomeFindings, SomeReports}
+use Rattle.command_answers.specs.Receiving.{HasReceived, HasReports, outcome_of}
 use Rattle.modem_links.specs.Frames.{sent_bytes}
 use Rattle.modem_links.specs.Laws.{OneField, SomeField}
 use Rattle.report_lines.proofs.ByKind.{of_words as by_status}
 use Rattle.report_lines.specs.declared.Refusal.{Refusal}
-use Rattle.report_lines.specs.Refusals.{asking, step_of}
+use Rattle.report_lines.specs.declared.Refusal.TheVariants.{NoMemory}
+use Rattle.report_lines.specs.Refusals.{IsDecided, answering, asking, status_of, step_of}
+use Rattle.std.specs.Result.{IfErr, IfOk, result_err}
 use Rattle.command_words.proofs.Asked.{asked_or_refused, nothing_asked, one_refusal, one_request}
 use Rattle.command_words.specs.declared.Request.{Request}
-use Rattle.command_words.specs.declared.Request.TheVariants.{Bits, Decode, Send, Noise, Inspect, Show}
+use Rattle.command_words.specs.declared.Request.TheVariants.{Bits, Decode, Send, Receive, Noise, Inspect, Show}
 use Rattle.command_words.specs.declared.Stage.TheVariants.{Kept}
 use Rattle.command_words.specs.Asking.{AreRefusedFor, AskFor, command_of}
 use Rattle.frame_stages.specs.Stages.{stage_text_of}
 use Rattle.command_answers.specs.Answers.{noisy_bytes}
 use Rattle.command_answers.specs.InOrder.{Answers, Outcome, Refuses, Writes}
 use Rattle.command_answers.specs.declared.reading.Reading.{Reading}
-use Rattle.command_answers.specs.Inputs.{IsAccepted, IsInput, OfInput, RefusesInput, reads}
+use Rattle.command_answers.specs.Inputs.{IsAccepted, IsInput, OfInput, Reads, RefusesInput, reads}
 use Rattle.command_answers.specs.Laws.{OneOutcome, SomeOutcome}
 use Rattle.command_answers.specs.Outcome.{AnswerOf, AreRefused, RequestOutcome, HasOutcome, IsOutcome, of_request, of_words}
 use Rattle.command_answers.proofs.OfText.{decode_all, decode_one, decode_some}
@@ -37,61 +42,79 @@ reports_one : OneReports → (capture : List Sample) → AtMostOne (Answers (Has
 reports_one one capture =
     answers_one (HasReports capture) (λ x y has has'. has.2 ∙ ap text_of_reports (one capture has.0 has'.0 has.1 has'.1) ∙ sym has'.2)
 
-answer_some : SomeField → SomeReports → (request : Request) (read : List ℕ) → AtLeastOne (AnswerOf request read)
-answer_some some reports (Bits rate seed) read = (Writes (stage_text_of Kept rate seed read), refl)
-answer_some some reports (Decode rate octets) read = decode_some some rate octets read
-answer_some some reports (Send rate seed) read = (Writes (sent_bytes rate seed read), refl)
-answer_some some reports (Noise items) read = (Writes (noisy_bytes items read), refl)
-answer_some some reports Inspect read = reports_some reports (samples_in read)
-answer_some some reports (Show stage rate seed) read = (Writes (stage_text_of stage rate seed read), refl)
+-- what is received of a capture
+received_some : SomeFindings → (capture : List Sample) → AtLeastOne (HasReceived capture)
+received_some some capture =
+    let found = some capture in (outcome_of (received_of found.0 found.1.0), (found.0, found.1.0, found.1.1, refl))
 
-answer_one : OneField → OneReports → (request : Request) (read : List ℕ) → AtMostOne (AnswerOf request read)
-answer_one one reports (Bits rate seed) read a b is is' = is ∙ sym is'
-answer_one one reports (Decode rate octets) read a b has has' = decode_one one rate octets read a b has has'
-answer_one one reports (Send rate seed) read a b is is' = is ∙ sym is'
-answer_one one reports (Noise items) read a b is is' = is ∙ sym is'
-answer_one one reports Inspect read a b has has' = reports_one reports (samples_in read) a b has has'
-answer_one one reports (Show stage rate seed) read a b is is' = is ∙ sym is'
+received_one : OneFindings → (capture : List Sample) → AtMostOne (HasReceived capture)
+received_one one capture a b (heard, cut, found, is) (heard', cut', found', is') =
+    let same = one capture heard heard' cut cut' found found' in
+    is ∙ ap (λ frames. outcome_of (received_of frames cut)) same.0 ∙ ap (λ end. outcome_of (received_of heard' end)) same.1 ∙ sym is'
+
+answer_some : SomeField → SomeReports → SomeFindings → (request : Request) (read : List ℕ) → AtLeastOne (AnswerOf request read)
+answer_some some reports findings (Bits rate seed) read = (Writes (stage_text_of Kept rate seed read), refl)
+answer_some some reports findings (Decode rate octets) read = decode_some some rate octets read
+answer_some some reports findings (Send rate seed) read = (Writes (sent_bytes rate seed read), refl)
+answer_some some reports findings (Noise items) read = (Writes (noisy_bytes items read), refl)
+answer_some some reports findings Receive read = received_some findings (samples_in read)
+answer_some some reports findings Inspect read = reports_some reports (samples_in read)
+answer_some some reports findings (Show stage rate seed) read = (Writes (stage_text_of stage rate seed read), refl)
+
+answer_one : OneField → OneReports → OneFindings → (request : Request) (read : List ℕ) → AtMostOne (AnswerOf request read)
+answer_one one reports findings (Bits rate seed) read a b is is' = is ∙ sym is'
+answer_one one reports findings (Decode rate octets) read a b has has' = decode_one one rate octets read a b has has'
+answer_one one reports findings (Send rate seed) read a b is is' = is ∙ sym is'
+answer_one one reports findings (Noise items) read a b is is' = is ∙ sym is'
+answer_one one reports findings Receive read a b has has' = received_one findings (samples_in read) a b has has'
+answer_one one reports findings Inspect read a b has has' = reports_one reports (samples_in read) a b has has'
+answer_one one reports findings (Show stage rate seed) read a b is is' = is ∙ sym is'
 
 -- an outcome isn't a refusal of the words
 abbrev IsNoWord : Outcome → Type 0
 IsNoWord (Writes answer) = Unit {0}
 IsNoWord (Refuses refusal) = step_of refusal ≢ asking
 
+received_is_no_word : (heard : List Heard) (cut : Option Cut) → IsNoWord (outcome_of (received_of heard cut))
+received_is_no_word [] None = λ asks. cc
+received_is_no_word [] (Some cut) = λ asks. cc
+received_is_no_word (first ∷ heard) cut = tt
+
 answer_is_no_word : (request : Request) (read : List ℕ) → AllAre IsNoWord (AnswerOf request read)
 answer_is_no_word (Bits rate seed) read outcome is = rw is tt
 answer_is_no_word (Decode rate octets) read outcome has = decode_all IsNoWord rate octets read (λ refusal at asks. cc) (λ answer. tt) outcome has
 answer_is_no_word (Send rate seed) read outcome is = rw is tt
 answer_is_no_word (Noise items) read outcome is = rw is tt
+answer_is_no_word Receive read outcome (heard, cut, found, is) = rw is (received_is_no_word heard cut)
 answer_is_no_word Inspect read outcome has = answers_all IsNoWord (HasReports (samples_in read)) (λ answer. tt) outcome has
 answer_is_no_word (Show stage rate seed) read outcome is = rw is tt
 
 -- the same with the refusals of the input
-request_some : SomeField → SomeReports → (request : Request) (bytes : List ℕ) → AtLeastOne (RequestOutcome request bytes)
-request_some some reports request bytes = input_some (reads (command_of request)) (AnswerOf request) bytes (answer_some some reports request)
+request_some : SomeField → SomeReports → SomeFindings → (request : Request) (bytes : List ℕ) → AtLeastOne (RequestOutcome request bytes)
+request_some some reports findings request bytes = input_some (reads (command_of request)) (AnswerOf request) bytes (answer_some some reports findings request)
 
-request_one : OneField → OneReports → (request : Request) (bytes : List ℕ) → AtMostOne (RequestOutcome request bytes)
-request_one one reports request bytes = input_one (reads (command_of request)) (AnswerOf request) bytes (answer_one one reports request)
+request_one : OneField → OneReports → OneFindings → (request : Request) (bytes : List ℕ) → AtMostOne (RequestOutcome request bytes)
+request_one one reports findings request bytes = input_one (reads (command_of request)) (AnswerOf request) bytes (answer_one one reports findings request)
 
 request_is_no_word : (request : Request) (bytes : List ℕ) → AllAre IsNoWord (RequestOutcome request bytes)
 request_is_no_word request bytes = input_all IsNoWord (reads (command_of request)) (AnswerOf request) bytes (λ refusal at asks. cc) (answer_is_no_word request)
 
 -- words and bytes have an outcome
-pub some_outcome : SomeField → SomeReports → SomeOutcome
-some_outcome some reports words bytes =
+pub some_outcome : SomeField → SomeReports → SomeFindings → SomeOutcome
+some_outcome some reports findings words bytes =
     elim (asked_or_refused words) [
-      | inl asked ↦ let of_it = request_some some reports asked.0 bytes in (of_it.0, of_request asked.0 asked.1 of_it.1)
+      | inl asked ↦ let of_it = request_some some reports findings asked.0 bytes in (of_it.0, of_request asked.0 asked.1 of_it.1)
       | inr why ↦ (Refuses why.0, of_words why.0 why.1 refl)
     ]
 
 -- .. and no other
-pub only_outcome : OneField → OneReports → OneOutcome
-only_outcome one reports words bytes a b (of_request request asks has) (of_request other asks' has') =
+pub only_outcome : OneField → OneReports → OneFindings → OneOutcome
+only_outcome one reports findings words bytes a b (of_request request asks has) (of_request other asks' has') =
     let same = one_request words other request asks' asks in
-    request_one one reports request bytes a b has (let P : Request → Type 0 = λ asked. RequestOutcome asked bytes b in subst P same has')
-only_outcome one reports words bytes a b (of_request request asks has) (of_words refusal why is) = absurd (nothing_asked words refusal why request asks)
-only_outcome one reports words bytes a b (of_words refusal why is) (of_request request asks has) = absurd (nothing_asked words refusal why request asks)
-only_outcome one reports words bytes a b (of_words refusal why is) (of_words refusal' why' is') = is ∙ ap Refuses (one_refusal words refusal refusal' why why') ∙ sym is'
+    request_one one reports findings request bytes a b has (let P : Request → Type 0 = λ asked. RequestOutcome asked bytes b in subst P same has')
+only_outcome one reports findings words bytes a b (of_request request asks has) (of_words refusal why is) = absurd (nothing_asked words refusal why request asks)
+only_outcome one reports findings words bytes a b (of_words refusal why is) (of_request request asks has) = absurd (nothing_asked words refusal why request asks)
+only_outcome one reports findings words bytes a b (of_words refusal why is) (of_words refusal' why' is') = is ∙ ap Refuses (one_refusal words refusal refusal' why why') ∙ sym is'
 
 -- words that are refused whatever the input holds are refused for this
 pub words_are_refused : (words : List (List ℕ)) → AreRefused words → (refusal : Refusal) × AreRefusedFor words refusal
@@ -101,21 +124,55 @@ words_are_refused words (refusal, cause) = why (cause.1 [])
     why (of_request request asks has) = absurd (request_is_no_word request [] (Refuses refusal) has (by_status refusal cause.0))
     why (of_words other cause' same) = (other, cause')
 
--- the outcome of a request, of the text that was read of an input which a source tells
-pub answered : (words : List (List ℕ)) (left : Option (List ℕ)) (request : Request) (kind : Reading) (read text : List ℕ) (outcome : Outcome) → kind ≡ reads (command_of request) → text ≡ read
-    → AskFor words request → IfSome left (IsInput kind read) → IsAccepted kind read → AnswerOf request text outcome → IsOutcome words left outcome
-answered words None request kind read text outcome of_it same asks is accepted has = tt
-answered words (Some bytes) request kind read text outcome of_it same asks is accepted has =
-    of_request request asks (subst (λ k. OfInput k (AnswerOf request) bytes outcome) of_it (accepted_outcome kind (AnswerOf request) read bytes outcome is accepted
-    (subst (λ list. AnswerOf request list outcome) same has)))
-
--- .. where the input alone is refused
-pub input_refused : (words : List (List ℕ)) (left : Option (List ℕ)) (request : Request) (refusal : Refusal) → AskFor words request
-    → IfSome left (RefusesInput (reads (command_of request)) refusal) → IsOutcome words left (Refuses refusal)
-input_refused words None request refusal asks has = tt
-input_refused words (Some bytes) request refusal asks has = of_request request asks (refused_outcome (reads (command_of request)) (AnswerOf request) bytes refusal has)
-
--- .. and where the words are
+-- words that are refused have their outcome
 pub words_refused : (words : List (List ℕ)) (left : Option (List ℕ)) (refusal : Refusal) → AreRefusedFor words refusal → IsOutcome words left (Refuses refusal)
 words_refused words None refusal why = tt
 words_refused words (Some bytes) refusal why = of_words refusal why refl
+
+-- the outcome of a request and what a source tells is that of the words
+pub request_outcome : (words : List (List ℕ)) (left : Option (List ℕ)) (request : Request) (outcome : Outcome) → AskFor words request
+    → IfSome left (λ bytes. RequestOutcome request bytes outcome) → IsOutcome words left outcome
+request_outcome words None request outcome asks has = tt
+request_outcome words (Some bytes) request outcome asks has = of_request request asks has
+
+-- .. of what was read of an input which a source tells
+pub read_outcome : (left : Option (List ℕ)) (request : Request) (kind : Reading) (read text : List ℕ) (outcome : Outcome) → kind ≡ reads (command_of request) → text ≡ read
+    → IfSome left (IsInput kind read) → IsAccepted kind read → AnswerOf request text outcome → IfSome left (λ bytes. RequestOutcome request bytes outcome)
+read_outcome None request kind read text outcome of_it same is accepted has = tt
+read_outcome (Some bytes) request kind read text outcome of_it same is accepted has =
+    subst (λ k. OfInput k (AnswerOf request) bytes outcome) of_it (accepted_outcome kind (AnswerOf request) read bytes outcome is accepted
+    (subst (λ list. AnswerOf request list outcome) same has))
+
+-- .. and where the input alone is refused
+pub refused_input : (left : Option (List ℕ)) (request : Request) (refusal : Refusal) → IfSome left (RefusesInput (reads (command_of request)) refusal)
+    → IfSome left (λ bytes. RequestOutcome request bytes (Refuses refusal))
+refused_input None request refusal has = tt
+refused_input (Some bytes) request refusal has = refused_outcome (reads (command_of request)) (AnswerOf request) bytes refusal has
+
+-- .. as the answer of what was read says it
+pub read_ok : {T E : Type 0} (left : Option (List ℕ)) (request : Request) (kind : Reading) (read text : List ℕ) (result : Result T E) (bytes_of : T → List ℕ) → kind ≡ reads (command_of request)
+    → text ≡ read → IfSome left (IsInput kind read) → IsAccepted kind read → IfOk result (λ answer. AnswerOf request text (Writes (bytes_of answer)))
+    → IfOk result (λ answer. IfSome left (λ bytes. RequestOutcome request bytes (Writes (bytes_of answer))))
+read_ok left request kind read text (Err fault) bytes_of of_it same is accepted has = tt
+read_ok left request kind read text (Ok answer) bytes_of of_it same is accepted has = read_outcome left request kind read text _ of_it same is accepted has
+
+pub read_err : {T : Type 0} (left : Option (List ℕ)) (request : Request) (kind : Reading) (read text : List ℕ) (result : Result T Refusal) → kind ≡ reads (command_of request) → text ≡ read
+    → IfSome left (IsInput kind read) → IsAccepted kind read → IfErr result (λ refusal. (refusal ≡ NoMemory) ⊎ ((step_of refusal ≡ answering) × AnswerOf request text (Refuses refusal)))
+    → IfErr result (λ refusal. IsDecided (status_of refusal) → IfSome left (λ bytes. RequestOutcome request bytes (Refuses refusal)))
+read_err left request kind read text (Ok answer) of_it same is accepted has = tt
+read_err left request kind read text (Err refusal) of_it same is accepted (inl want) = λ decided. absurd (rw want at decided)
+read_err left request kind read text (Err refusal) of_it same is accepted (inr (at, has)) = λ decided. read_outcome left request kind read text _ of_it same is accepted has
+
+-- what a call that reads leaves of the source, where a later step is refused
+pub reads_on : {T : Type 0} (kind : Reading) (request : Request) (text : List ℕ) (before after : Option (List ℕ)) (faults faults' : ℕ) (result : Result T Refusal) → kind ≡ reads (command_of request)
+    → Reads kind before after faults faults' None → IfErr result (λ refusal. (refusal ≡ NoMemory) ⊎ ((step_of refusal ≡ answering) × AnswerOf request text (Refuses refusal)))
+    → Reads (reads (command_of request)) before after faults faults' (result_err result)
+reads_on kind request text before after faults faults' (Ok answer) of_it has why = rw (sym of_it) has
+reads_on kind request text before after faults faults' (Err refusal) of_it has why = rw (sym of_it) (record {
+  end = λ past to_end. has.end tt to_end;
+  at_most = has.at_most;
+  to_limit = λ is. elim why [ inl want ↦ cc | inr at ↦ let is_at = at.0 in cc ];
+  to_input_limit = λ is. elim why [ inl want ↦ cc | inr at ↦ let is_at = at.0 in cc ];
+  fault = λ is. elim why [ inl want ↦ cc | inr at ↦ let is_at = at.0 in cc ];
+  fault_within = λ is. elim why [ inl want ↦ cc | inr at ↦ let is_at = at.0 in cc ];
+})

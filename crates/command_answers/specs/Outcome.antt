@@ -8,12 +8,12 @@ use Rattle.report_lines.specs.declared.Status.TheVariants as status
 use Rattle.report_lines.specs.Refusals.{status_of}
 use Rattle.command_words.specs.declared.Command.{Command}
 use Rattle.command_words.specs.declared.Request.{Request}
-use Rattle.command_words.specs.declared.Request.TheVariants.{Bits, Decode, Send, Noise, Inspect, Show}
+use Rattle.command_words.specs.declared.Request.TheVariants.{Bits, Decode, Send, Receive, Noise, Inspect, Show}
 use Rattle.command_words.specs.declared.Stage.TheVariants.{Kept}
 use Rattle.command_words.specs.Asking.{AreRefusedFor, AskFor, command_of}
 use Rattle.frame_stages.specs.Stages.{stage_text_of}
 use Rattle.command_answers.specs.Answers.{noisy_bytes}
-use Rattle.command_answers.specs.Receiving.{HasReports}
+use Rattle.command_answers.specs.Receiving.{HasReceived, HasReports}
 use Rattle.command_answers.specs.Decoding.{DecodeOutcome}
 use Rattle.command_answers.specs.InOrder.{Answers, Outcome, Refuses, Writes}
 use Rattle.command_answers.specs.Inputs.{OfInput, ReadsToEnd, accepted, reads, taken}
@@ -24,6 +24,7 @@ AnswerOf (Bits rate seed) read outcome = outcome ≡ Writes (stage_text_of Kept 
 AnswerOf (Decode rate octets) read outcome = DecodeOutcome rate octets read outcome
 AnswerOf (Send rate seed) read outcome = outcome ≡ Writes (sent_bytes rate seed read)
 AnswerOf (Noise items) read outcome = outcome ≡ Writes (noisy_bytes items read)
+AnswerOf Receive read outcome = HasReceived (samples_in read) outcome
 AnswerOf Inspect read outcome = Answers (HasReports (samples_in read)) outcome
 AnswerOf (Show stage rate seed) read outcome = outcome ≡ Writes (stage_text_of stage rate seed read)
 

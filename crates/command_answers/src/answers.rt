@@ -1,5 +1,5 @@
 //! What a command writes.
-ghost use Rattle.std.specs.Prelude.{◌≡◌, ◌⊎◌, ◌%◌, ◌≤◌, length, IfOk, IfErr, OnOk, OnErr};
+ghost use Rattle.std.specs.Prelude.{◌≡◌, ◌≢◌, ◌⊎◌, ◌%◌, ◌≤◌, length, IfOk, IfErr, OnOk, OnErr};
 ghost use Rattle.capture_files.specs.Captures.{samples_in};
 ghost use Rattle.command_answers.specs.Answers.{bytes_of_answer};
 ghost use Rattle.command_answers.specs.InOrder.{Refuses, Writes};
@@ -36,9 +36,9 @@ pub enum Answer {
     Samples(Vec<Sample>),
 }
 
-/// What a command writes, of the input that it read (own): the bytes of its outcome, or the refusal
+/// What a command but `receive` writes, of the input that it read (own): the bytes of its outcome, or the refusal
 /// that is its outcome, or `NoMemory`, which is free. `steps` counts the steps of the trellis.
-pub fn answer_of(
+pub(crate) fn answer_of(
     alloc: Global,
     request: Request,
     input: &[u8],
@@ -46,6 +46,7 @@ pub fn answer_of(
 ) -> Result<Answer, Refusal>
     requires range { IsInRange (command_of request) }
     requires accepted { IsAccepted (reads (command_of request)) input.now }
+    requires kept { request ≢ Request.Receive }
     ensures ok { IfOk result (λ answer.
         AnswerOf request input.now (Writes (bytes_of_answer answer))) }
     ensures refused { IfErr result (λ refusal. (refusal ≡ Refusal.NoMemory)
@@ -60,6 +61,7 @@ pub fn answer_of(
             Ok(Answer::Samples(frame_samples(alloc, rate, seed, input)?))
         }
         Request::Noise { script } => Ok(Answer::Samples(noisy_samples(alloc, &script, input)?)),
+        Request::Receive => unreachable!(),
         Request::Inspect => Ok(Answer::Bytes(edges_text(alloc, input, steps)?)),
         Request::Show { stage, rate, seed } => {
             Ok(Answer::Bytes(stage_text(alloc, stage, rate, seed, input)?))

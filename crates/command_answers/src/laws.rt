@@ -1,7 +1,7 @@
 //! What holds of outcomes, for every input. Its functions do nothing: what each ensures is the law.
 ghost use Rattle.command_answers.specs.Laws.{FlippedTextGivesItsPsdu, OneOutcome, SomeOutcome};
 
-use frame_findings::laws::one_report;
+use frame_findings::laws::{one_reception, one_report};
 use modem_links::laws::{few_flips, one_field};
 
 /// All words and all bytes have exactly one outcome (own).
@@ -11,6 +11,7 @@ pub fn outcome_is_one()
 {
     one_field();
     one_report();
+    one_reception();
 }
 
 /// What `decode` is asked to write of a text that is the kept code of a field with few flips: that

@@ -5,6 +5,8 @@ mod answers;
 mod decoding;
 pub mod laws;
 mod reading;
+mod requests;
 
-pub use answers::{Answer, answer_of, write_answer};
-pub use reading::{Reading, read_input};
+pub use answers::{Answer, write_answer};
+pub use reading::Reading;
+pub use requests::answer_from;

@@ -34,7 +34,7 @@ impl Reading {
         match request {
             Request::Bits { .. } | Request::Send { .. } | Request::Show { .. } => Reading::Psdu,
             Request::Decode { .. } => Reading::Bytes,
-            Request::Noise { .. } | Request::Inspect => Reading::Capture,
+            Request::Receive | Request::Noise { .. } | Request::Inspect => Reading::Capture,
         }
     }
 }
@@ -44,7 +44,7 @@ impl Reading {
 /// `EmptyPsdu`, `LongPsdu`, `TornCapture` and `LongCapture` come as the input alone decides, the two
 /// long ones as soon as the byte that passes the limit was taken, and the others at the end of input. `ReadFault` comes only where the source's count of
 /// faults rose in this call. `NoMemory` is free.
-pub fn read_input<S: Source>(
+pub(crate) fn read_input<S: Source>(
     alloc: Global,
     kind: Reading,
     source: &mut S,

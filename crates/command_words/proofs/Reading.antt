@@ -10,7 +10,7 @@ use Rattle.rate_table.proofs.ByRate.{by_rate, rate_of_mbps, rate_of_mbps-of}
 use Rattle.rate_table.specs.declared.Rate.{Rate}
 use Rattle.rate_table.specs.Table.{row_of}
 use Rattle.command_words.specs.declared.Command.{Command}
-use Rattle.command_words.specs.declared.Command.TheVariants.{Bits, Decode, Send, Noise, Inspect, Show}
+use Rattle.command_words.specs.declared.Command.TheVariants.{Bits, Decode, Send, Receive, Noise, Inspect, Show}
 use Rattle.command_words.specs.declared.Stage.{Stage}
 use Rattle.command_words.specs.declared.Stage.TheVariants.{Scrambled, Coded, Kept, Interleaved, Points, Header, Samples}
 use Rattle.command_words.specs.Grammar.{AreWordsOf, IsFrom, IsInRange, Say, SayNothing, noise_words, rate_word, stage_word}
@@ -60,7 +60,8 @@ stage_back Samples = refl
 
 -- the command that words say, if they say one: by their number and the first of them
 command_in : List (List ℕ) → Option Command
-command_in (name ∷ []) = cond (bytes_eq name (codes "inspect")) (Some Inspect) None
+command_in (name ∷ []) =
+    cond (bytes_eq name (codes "inspect")) (Some Inspect) (cond (bytes_eq name (codes "receive")) (Some Receive) None)
 command_in (name ∷ text ∷ []) = cond (bytes_eq name (codes "noise")) (Some Noise) None
 command_in (name ∷ a ∷ b ∷ []) =
     cond (bytes_eq name (codes "bits")) (Some (Bits (rate_in a) (number_in b)))
@@ -75,6 +76,7 @@ reads_back words (Bits rate seed) range are = rw (are, rate_back rate, number_ba
 reads_back words (Decode rate octets) range are = rw (are, rate_back rate, number_back octets (omega (arith, range.1))) refl
 reads_back words (Send rate seed) range are = rw (are, rate_back rate, number_back seed (omega (arith, range.1))) refl
 reads_back words Noise range (text, are) = rw are refl
+reads_back words Receive range are = rw are refl
 reads_back words Inspect range are = rw are refl
 reads_back words (Show stage rate seed) range are = rw (are, stage_back stage, rate_back rate, number_back seed (omega (arith, range.1))) refl
 
@@ -100,6 +102,7 @@ range_decided (Bits rate seed) = from_decided 1 127 seed
 range_decided (Decode rate octets) = from_decided 1 4095 octets
 range_decided (Send rate seed) = from_decided 1 127 seed
 range_decided Noise = inl tt
+range_decided Receive = inl tt
 range_decided Inspect = inl tt
 range_decided (Show stage rate seed) = from_decided 1 127 seed
 
@@ -134,6 +137,7 @@ words_decided words (Bits rate seed) = same_words words _
 words_decided words (Decode rate octets) = same_words words _
 words_decided words (Send rate seed) = same_words words _
 words_decided words Noise = noise_decided words
+words_decided words Receive = same_words words _
 words_decided words Inspect = same_words words _
 words_decided words (Show stage rate seed) = same_words words _
 

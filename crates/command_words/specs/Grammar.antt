@@ -9,7 +9,7 @@ use Rattle.ofdm_scrambler.specs.Sequence.{IsSeed}
 use Rattle.command_words.specs.declared.Stage.{Stage}
 use Rattle.command_words.specs.declared.Stage.TheVariants.{Scrambled, Coded, Kept, Interleaved, Points, Header, Samples}
 use Rattle.command_words.specs.declared.Command.{Command}
-use Rattle.command_words.specs.declared.Command.TheVariants.{Bits, Decode, Send, Noise, Inspect, Show}
+use Rattle.command_words.specs.declared.Command.TheVariants.{Bits, Decode, Send, Receive, Noise, Inspect, Show}
 
 -- the texts of the words of the command line
 abbrev pub texts_of : Vec (String Global) Global → List (List ℕ)
@@ -40,6 +40,7 @@ AreWordsOf (Decode rate octets) words =
     words ≡ codes "decode" ∷ rate_word rate ∷ decimal octets ∷ []
 AreWordsOf (Send rate seed) words = words ≡ codes "send" ∷ rate_word rate ∷ decimal seed ∷ []
 AreWordsOf Noise words = (text : List ℕ) × (words ≡ noise_words text)
+AreWordsOf Receive words = words ≡ codes "receive" ∷ []
 AreWordsOf Inspect words = words ≡ codes "inspect" ∷ []
 AreWordsOf (Show stage rate seed) words =
     words ≡ codes "show" ∷ stage_word stage ∷ rate_word rate ∷ decimal seed ∷ []
@@ -50,6 +51,7 @@ IsInRange (Bits rate seed) = IsSeed seed
 IsInRange (Decode rate octets) = IsLength octets
 IsInRange (Send rate seed) = IsSeed seed
 IsInRange Noise = Unit {0}
+IsInRange Receive = Unit {0}
 IsInRange Inspect = Unit {0}
 IsInRange (Show stage rate seed) = IsSeed seed
 

@@ -25,6 +25,7 @@ pub fn read_request(words: &Vec<String>) -> Result<Request, Refusal>
         Command::Decode { rate, length } => Ok(Request::Decode { rate, length }),
         Command::Send { rate, seed } => Ok(Request::Send { rate, seed }),
         Command::Noise => read_noise(words[1].as_str()),
+        Command::Receive => Ok(Request::Receive),
         Command::Inspect => Ok(Request::Inspect),
         Command::Show { stage, rate, seed } => Ok(Request::Show { stage, rate, seed }),
     }

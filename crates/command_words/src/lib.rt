@@ -52,6 +52,8 @@ pub enum Command {
     },
     /// `noise SCRIPT`, whatever the text is that stands for the script.
     Noise,
+    /// `receive`
+    Receive,
     /// `inspect`
     Inspect,
     /// `show STAGE RATE SEED`
@@ -84,6 +86,8 @@ pub enum Request {
     Noise {
         script: Script,
     },
+    /// A line for each frame of a capture, and for the cut that it ends in.
+    Receive,
     /// A line for each edge of a capture.
     Inspect,
     /// The text of a stage.

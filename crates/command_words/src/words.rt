@@ -42,6 +42,7 @@ fn read_one(name: &str) -> Option<Command>
 {
     match name {
         "inspect" => Some(Command::Inspect),
+        "receive" => Some(Command::Receive),
         _ => None,
     }
 }

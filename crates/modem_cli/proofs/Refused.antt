@@ -12,7 +12,9 @@ use Rattle.report_lines.specs.Refusals.{IsDecided, asking, status_of, step_of}
 use Rattle.command_words.specs.declared.Command.{Command}
 use Rattle.command_words.proofs.Reading.{one_command}
 use Rattle.command_words.proofs.Asked.{nothing_asked, refused_at}
+use Rattle.command_words.specs.declared.Command.TheVariants as command
 use Rattle.command_words.specs.declared.Request.{Request}
+use Rattle.command_words.specs.declared.Request.TheVariants.{Bits, Decode, Send, Receive, Noise, Inspect, Show}
 use Rattle.command_words.specs.Asking.{AreRefusedFor, AskFor, AskForNothing, command_of}
 use Rattle.command_words.specs.Grammar.{Say}
 use Rattle.command_answers.proofs.Outcomes.{words_are_refused}
@@ -31,16 +33,34 @@ refuses_words words refusal why is = (is, λ bytes. of_words refusal (why (by_st
 pub refused_ask_nothing : (words : List (List ℕ)) → AreRefused words → AskForNothing words
 refused_ask_nothing words refused = let why = words_are_refused words refused in nothing_asked words why.0 why.1
 
--- what a command that finds no answer is refused for, where it isn't want of memory
-pub of_answering : (refusal : Refusal) (At Has : Type 0) → (refusal ≡ NoMemory) ⊎ (At × Has) → IsDecided (status_of refusal) → Has
-of_answering refusal At Has (inl want) decided = absurd (subst (λ r. IsDecided (status_of r)) want decided)
-of_answering refusal At Has (inr (at, has)) decided = has
-
 -- what a call that reads leaves of the source, for any command that the words say
 pub reads_of_said : (words : List (List ℕ)) (request : Request) (command : Command) (kind : Reading) (before after : Option (List ℕ)) (faults faults' : ℕ) (refused : Option Refusal)
     → kind ≡ reads (command_of request) → AskFor words request → Say words command → Reads kind before after faults faults' refused → Reads (reads command) before after faults faults' refused
 reads_of_said words request command kind before after faults faults' refused is asks says has =
     subst (λ k. Reads k before after faults faults' refused) (is ∙ ap reads (one_command words (command_of request) command asks.said says)) has
+
+-- words that say `receive` ask for it
+is_receive : (request : Request) → command_of request ≡ command.Receive → request ≡ Receive
+is_receive (Bits rate seed) is = cc
+is_receive (Decode rate octets) is = cc
+is_receive (Send rate seed) is = cc
+is_receive Receive is = refl
+is_receive (Noise items) is = cc
+is_receive Inspect is = cc
+is_receive (Show stage rate seed) is = cc
+
+pub receive_asked : (words : List (List ℕ)) (request : Request) → AskFor words request → Say words command.Receive → request ≡ Receive
+receive_asked words request asks says = is_receive request (one_command words (command_of request) command.Receive asks.said says)
+
+-- the status of want of memory is that of no other refusal
+pub is_no_memory : (refusal : Refusal) → status_of refusal ≡ status.NoMemory → refusal ≡ NoMemory
+is_no_memory refusal is =
+    elim (kinds refusal) [
+      | inl decided ↦ absurd (rw is at decided)
+      | inr (inl other) ↦ let same = ap status_of other in cc
+      | inr (inr (inl other)) ↦ let same = ap status_of other in cc
+      | inr (inr (inr want)) ↦ want
+    ]
 
 -- the count of a port that never fails is always 0, and never rose
 pub never_rose : ¬ Rose 0 0

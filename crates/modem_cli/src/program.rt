@@ -1,5 +1,5 @@
 //! One run of the program, over any ports.
-ghost use Rattle.std.specs.Prelude.{◌≡◌, ◌≢◌, ◌↔◌, ◌+◌, ◌≤◌, ◌⊎◌, List, ℕ, IfErr, IfSome, IsErrAnd, IsErrOf, OnOk};
+ghost use Rattle.std.specs.Prelude.{◌≡◌, ◌≢◌, ◌↔◌, ◌+◌, ◌*◌, ◌/◌, ◌≤◌, ◌⊎◌, List, ℕ, length, IfErr, IfSome, IsErrAnd, IsErrOf, OnOk};
 ghost use Rattle.std.specs.Result.{result_err};
 ghost use Rattle.command_answers.specs.Flips.{IsFlippedText};
 ghost use Rattle.command_answers.specs.InOrder.{Outcome, Refuses, Writes};
@@ -17,7 +17,7 @@ ghost use Rattle.report_lines.specs.declared.Refusal.{Refusal};
 ghost use Rattle.report_lines.specs.Refusals.{IsDecided, asking, status_of, step_of};
 
 use command_answers::laws::{flipped_text_gives_its_psdu, outcome_is_one};
-use command_answers::{Reading, answer_of, read_input, write_answer};
+use command_answers::{answer_from, write_answer};
 use command_words::read_request;
 use modem_ports::{Discard, NeverFails, Sink, Source, Steps, write_all};
 use report_lines::{Refusal, Status, line_of};
@@ -94,6 +94,13 @@ pub fn run<S: Source, K: Sink, E: Sink>(
         → IfSome (S.left source.old) (λ bytes. (psdu : List ℕ)
         → IsFlippedText (texts_of words.now) bytes psdu
         → IsWrittenUnlessNoMemory result psdu (K.taken out.old) (K.taken out.new)) }
+
+    // With `receive`, want of memory comes before the first read, and the steps are at most 32 for each
+    // sample, and 512.
+    ensures memory_first { Say (texts_of words.now) Command.Receive
+        → result ≡ Status.NoMemory → source.new ≡ source.old }
+    ensures bounded { Say (texts_of words.now) Command.Receive → IfSome (S.left source.old)
+        (λ bytes. steps.new ≤ steps.old + (32 * (length bytes / 4) + 512)) }
 
     // The counts of faults never fall.
     ensures source_counted { S.faults source.old ≤ S.faults source.new }
@@ -174,10 +181,13 @@ fn execute<S: Source, K: Sink>(
         → Rose (K.faults out.old) (K.faults out.new) }
     ensures source_counted { S.faults source.old ≤ S.faults source.new }
     ensures out_counted { K.faults out.old ≤ K.faults out.new }
+    ensures memory_first { Say (texts_of words.now) Command.Receive
+        → IsErrOf result Refusal.NoMemory → source.new ≡ source.old }
+    ensures bounded { Say (texts_of words.now) Command.Receive → IfSome (S.left source.old)
+        (λ bytes. steps.new ≤ steps.old + (32 * (length bytes / 4) + 512)) }
 {
     let request = read_request(words)?;
-    let input = read_input(alloc, Reading::of(&request), source)?;
-    let answer = answer_of(alloc, request, &input, steps)?;
+    let answer = answer_from(alloc, request, source, steps)?;
     match write_answer(&answer, out) {
         Ok(()) => Ok(()),
         Err(_) => Err(Refusal::WriteFault),
