@@ -639,3 +639,71 @@ fn inspects_a_hostile_capture(rt: HostRuntime) -> Result<(), Fail> {
     )?;
     Ok(())
 }
+
+// The line of a frame of the octets 0 to 99 at a place.
+fn line_of_a_hundred(alloc: Global, start: u32) -> Result<String, AllocError> {
+    let mut line = format!(in alloc; "frame {start} 36 100 93 ")?;
+    for octet in 0..100u8 {
+        line.push_str(&format!(in alloc; "{octet:02x}")?)?;
+    }
+    line.push_str("\n")?;
+    Ok(line)
+}
+
+// Two frames, 16 zero samples apart, and the second without its last sample.
+#[test]
+fn receives_frames(rt: HostRuntime) -> Result<(), Fail> {
+    let frame = written(rt.alloc(), "send 36 93", &a_hundred_octets())?;
+    let first = line_of_a_hundred(rt.alloc(), 0)?;
+    check(
+        &rt,
+        rt.alloc(),
+        &answers("receive", &frame, Out::Whole(first.as_bytes())),
+    )?;
+    let mut two = Vec::from_slice(rt.alloc(), &frame)?;
+    two.extend_from_slice(&[0; 64])?;
+    two.extend_from_slice(&frame)?;
+    let mut lines = String::from_str(rt.alloc(), first.as_str())?;
+    lines.push_str(&line_of_a_hundred(rt.alloc(), 896)?)?;
+    check(
+        &rt,
+        rt.alloc(),
+        &answers("receive", &two, Out::Whole(lines.as_bytes())),
+    )?;
+    let mut lines = String::from_str(rt.alloc(), first.as_str())?;
+    lines.push_str("cut 896 879 880\n")?;
+    let cut = &two[..two.len() - 4];
+    check(
+        &rt,
+        rt.alloc(),
+        &answers("receive", cut, Out::Whole(lines.as_bytes())),
+    )?;
+    Ok(())
+}
+
+#[test]
+fn refuses_what_is_no_frame(rt: HostRuntime) -> Result<(), Fail> {
+    let frame = written(rt.alloc(), "send 36 93", &a_hundred_octets())?;
+    let rows: [(&[u8], Status, &str); 4] = [
+        (b"", Status::NoFrame, "error 8: no frame\n"),
+        (&[0; 4000], Status::NoFrame, "error 8: no frame\n"),
+        (
+            &frame[..3516],
+            Status::CutFrame,
+            "error 9: frame at 0 has 879 of 880 samples\n",
+        ),
+        (
+            &frame[..3517],
+            Status::BadInput,
+            "error 4: capture ends after 3517 bytes\n",
+        ),
+    ];
+    for (capture, status, report) in rows {
+        check(
+            &rt,
+            rt.alloc(),
+            &refused("receive", capture, status, report),
+        )?;
+    }
+    Ok(())
+}
