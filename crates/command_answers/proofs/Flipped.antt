@@ -2,8 +2,8 @@
 use Rattle.std.proofs.Common.{◌≡◌, ◌≤◌, inl, inr, ℕ, ◌+◌, List, [], ◌∷◌, length, length-append, refl, ap, ◌∙◌, arith}
 use Rattle.std.proofs.lemmas.List.{length-map}
 use Rattle.bit_lists.specs.Text.{IsTextOf, characters_of}
-use Rattle.modem_links.specs.Fields.{flips}
-use Rattle.modem_links.specs.Laws.{FewFlips}
+use Rattle.frame_fields.specs.Fields.{flips}
+use Rattle.frame_fields.specs.Laws.{FewFlips}
 use Rattle.modem_ports.specs.Limits.{most_input}
 use Rattle.rate_table.proofs.ByRate.{by_rate}
 use Rattle.rate_table.specs.declared.Rate.{Rate}

@@ -3,8 +3,8 @@ use Rattle.std.proofs.Common.{◌≡◌, ◌≢◌, ◌⊎◌, inl, inr, ℕ, �
 use Rattle.std.proofs.lemmas.Bool.{cases_eq}
 use Rattle.bit_lists.proofs.Texts.{apart, one_place, one_text, some_text}
 use Rattle.bit_lists.specs.Text.{IsBadPlace}
-use Rattle.modem_links.specs.Fields.{IsFieldOf}
-use Rattle.modem_links.specs.Laws.{OneField, SomeField}
+use Rattle.frame_fields.specs.Fields.{IsFieldOf}
+use Rattle.frame_fields.specs.Laws.{OneField, SomeField}
 use Rattle.rate_table.specs.declared.Rate.{Rate}
 use Rattle.rate_table.specs.Symbols.{symbol_count}
 use Rattle.rate_table.specs.Table.{row_of}

@@ -9,8 +9,8 @@ use Rattle.frame_findings.specs.declared.Cut.{Cut}
 use Rattle.frame_findings.specs.declared.Heard.{Heard}
 use Rattle.frame_findings.specs.Laws.{OneFindings, OneReports, SomeFindings, SomeReports}
 use Rattle.command_answers.specs.Receiving.{HasReceived, HasReports, outcome_of}
-use Rattle.modem_links.specs.Frames.{sent_bytes}
-use Rattle.modem_links.specs.Laws.{OneField, SomeField}
+use Rattle.frame_fields.specs.Frames.{sent_bytes}
+use Rattle.frame_fields.specs.Laws.{OneField, SomeField}
 use Rattle.report_lines.proofs.ByKind.{of_words as by_status}
 use Rattle.report_lines.specs.declared.Refusal.{Refusal}
 use Rattle.report_lines.specs.declared.Refusal.TheVariants.{NoMemory}

@@ -2,7 +2,7 @@
 use Rattle.std.specs.Prelude.{ℕ, ◌*◌, ◌≢◌, List, length}
 use Rattle.bit_lists.specs.Bits.{AreBits}
 use Rattle.bit_lists.specs.Text.{IsBadPlace, IsTextOf}
-use Rattle.modem_links.specs.Fields.{IsFieldOf}
+use Rattle.frame_fields.specs.Fields.{IsFieldOf}
 use Rattle.rate_table.specs.declared.Rate.{Rate}
 use Rattle.rate_table.specs.Symbols.{symbol_count}
 use Rattle.rate_table.specs.Table.{row_of}

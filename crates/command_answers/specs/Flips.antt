@@ -2,7 +2,7 @@
 use Rattle.std.specs.Prelude.{◌≡◌, ◌≤◌, ℕ, List, length}
 use Rattle.bit_lists.specs.Bits.{AreBits, AreOctets}
 use Rattle.bit_lists.specs.Text.{IsTextOf}
-use Rattle.modem_links.specs.Fields.{flips}
+use Rattle.frame_fields.specs.Fields.{flips}
 use Rattle.ofdm_scrambler.specs.Sequence.{IsSeed}
 use Rattle.rate_table.specs.declared.Rate.{Rate}
 use Rattle.rate_table.specs.Table.{row_of}

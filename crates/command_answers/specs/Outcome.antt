@@ -1,7 +1,7 @@
 -- What words and the bytes of the input come to (own).
 use Rattle.std.specs.Prelude.{ℕ, ◌≡◌, ◌⊎◌, List, Option, IfSome}
 use Rattle.capture_files.specs.Captures.{samples_in}
-use Rattle.modem_links.specs.Frames.{sent_bytes}
+use Rattle.frame_fields.specs.Frames.{sent_bytes}
 use Rattle.report_lines.specs.declared.Refusal.{Refusal}
 use Rattle.report_lines.specs.declared.Status.{Status}
 use Rattle.report_lines.specs.declared.Status.TheVariants as status

@@ -1,8 +1,8 @@
 //! What holds of outcomes, for every input. Its functions do nothing: what each ensures is the law.
 ghost use Rattle.command_answers.specs.Laws.{FlippedTextGivesItsPsdu, OneOutcome, SomeOutcome};
 
+use frame_fields::laws::{few_flips, one_field};
 use frame_findings::laws::{one_reception, one_report};
-use modem_links::laws::{few_flips, one_field};
 
 /// All words and all bytes have exactly one outcome (own).
 pub fn outcome_is_one()

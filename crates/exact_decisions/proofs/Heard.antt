@@ -20,11 +20,11 @@ use Rattle.viterbi_lanes.proofs.Nearest.{few_changes_repaired}
 use Rattle.signal_field.specs.Headers.{IsReadAs}
 use Rattle.signal_field.specs.Signal.{bits_of_number, front_bits_of, header_bits_of}
 use Rattle.signal_field.proofs.Signal.{AreBits-header_bits_of, length-header_bits_of}
-use Rattle.modem_links.specs.Fields.{flips}
-use Rattle.modem_links.specs.Frames.{signal_code}
-use Rattle.modem_links.proofs.FieldLaws.{few_flips}
-use Rattle.modem_links.proofs.Fields.{enough_decisions}
-use Rattle.modem_links.proofs.NearFrames.{AreBits-kept_at}
+use Rattle.frame_fields.specs.Fields.{flips}
+use Rattle.frame_fields.specs.Frames.{signal_code}
+use Rattle.frame_fields.proofs.FieldLaws.{few_flips}
+use Rattle.frame_fields.proofs.Fields.{enough_decisions}
+use Rattle.frame_fields.proofs.NearFrames.{AreBits-kept_at}
 use Rattle.frame_reader.specs.Frames.{HasField, data_decisions}
 use Rattle.exact_decisions.specs.Laws.{SentIsHeard, sent_header}
 use Rattle.exact_decisions.specs.Sent.{AreAsSent}

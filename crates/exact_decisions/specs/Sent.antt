@@ -6,7 +6,7 @@ use Rattle.rate_table.specs.Symbols.{symbol_count}
 use Rattle.rate_table.specs.Table.{row_of}
 use Rattle.interleave_two.specs.Place.{symbol_bits}
 use Rattle.data_field.specs.Stages.{kept_at}
-use Rattle.modem_links.specs.Frames.{signal_code}
+use Rattle.frame_fields.specs.Frames.{signal_code}
 
 -- the rate at which symbol n is sent: SIGNAL, which is symbol 0, as at 6 Mb/s
 abbrev pub rate_of_symbol : Rate → ℕ → Rate

@@ -8,7 +8,7 @@ use Rattle.fixed_complex.specs.PairLists.{entry}
 use Rattle.fixed_complex.specs.Pairs.{plus, zero_pair}
 use Rattle.fixed_complex.proofs.Pairs.{same_parts}
 use Rattle.plain_waves.specs.Bodies.{plain_body}
-use Rattle.modem_links.proofs.FramePlaces.{length-frame}
+use Rattle.frame_fields.proofs.FramePlaces.{length-frame}
 use Rattle.frame_lists.specs.Laws.{OneWaveform, OthersBehind, SilentBefore, SilentUpToStart}
 use Rattle.frame_lists.specs.Near.{SentFrame, bound_at, end_of_sent, has_place, plain_of, samples_of, shifted, waveform_at}
 

@@ -8,8 +8,8 @@ use Rattle.fixed_complex.specs.Samples.{sample_at}
 use Rattle.rate_table.specs.declared.Rate.{Rate}
 use Rattle.plain_waves.specs.Bodies.{sent_body}
 use Rattle.plain_waves.specs.Nearness.{AreNearPlain, IsNearPlain}
-use Rattle.modem_links.specs.Frames.{plain_frame, sent_frame}
-use Rattle.modem_links.proofs.FramePlaces.{length-frame}
+use Rattle.frame_fields.specs.Frames.{plain_frame, sent_frame}
+use Rattle.frame_fields.proofs.FramePlaces.{length-frame}
 use Rattle.frame_lists.specs.Items.{Item, frame_from, frames_from, samples_of_items, silence}
 use Rattle.frame_lists.specs.Laws.{SentListIsNear}
 use Rattle.frame_lists.specs.Near.{StandFrom, bound_at, end_of_sent, samples_of, waveform_at}

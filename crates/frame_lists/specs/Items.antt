@@ -2,7 +2,7 @@
 use Rattle.std.specs.Prelude.{ℕ, ◌+◌, List, [], ◌∷◌, ◌++◌, replicate, pos}
 use Rattle.fixed_complex.specs.declared.Sample.{Sample}
 use Rattle.rate_table.specs.declared.Rate.{Rate}
-use Rattle.modem_links.specs.Frames.{sent_frame}
+use Rattle.frame_fields.specs.Frames.{sent_frame}
 use Rattle.frame_lists.specs.Near.{SentFrame, end_of_sent}
 
 -- a frame to be sent behind so many silent samples

@@ -9,7 +9,7 @@ use Rattle.rate_table.specs.declared.Rate.{Rate}
 use Rattle.rate_table.specs.Symbols.{symbol_count}
 use Rattle.rate_table.specs.Table.{row_of}
 use Rattle.plain_waves.specs.Nearness.{IsNearPlain}
-use Rattle.modem_links.specs.Frames.{plain_frame}
+use Rattle.frame_fields.specs.Frames.{plain_frame}
 
 -- a frame that is sent, from a place on
 pub record SentFrame : Type 0 where

@@ -21,5 +21,5 @@ pub fn bounds_may_grow()
 pub fn sent_lists_are_near()
     ensures { SentListIsNear }
 {
-    modem_links::laws::sent_frames();
+    frame_fields::laws::sent_frames();
 }

@@ -17,7 +17,7 @@ use Rattle.carrier_equaliser.specs.Decided.{interleaved_decisions}
 use Rattle.carrier_equaliser.specs.Received.{received}
 use Rattle.carrier_equaliser.specs.Estimates.{estimate_of}
 use Rattle.frame_search.specs.Match.{part}
-use Rattle.modem_links.proofs.Begun.{one_more}
+use Rattle.frame_fields.proofs.Begun.{one_more}
 use Rattle.frame_reader.specs.Decisions.{body_of, decisions_of, estimate_from, plain_decisions}
 use Rattle.frame_reader.specs.Frames.{HasField, Opens, data_decisions, need_of, symbols_of}
 

@@ -1,7 +1,7 @@
 -- Decisions say one header, and a header has one field.
 use Rattle.rate_table.specs.declared.Rate.TheVariants.{R6}
 use Rattle.signal_field.proofs.Readings as signal
-use Rattle.modem_links.proofs.FieldLaws as fields
+use Rattle.frame_fields.proofs.FieldLaws as fields
 use Rattle.frame_reader.specs.Frames.{data_decisions, symbols_of}
 use Rattle.frame_reader.specs.Laws.{OneFieldOfHeader, OneHeader, SomeFieldOfHeader, SomeHeader}
 

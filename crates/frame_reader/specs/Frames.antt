@@ -10,7 +10,7 @@ use Rattle.rate_table.specs.Table.{row_of}
 use Rattle.signal_field.specs.declared.Header.{Header}
 use Rattle.signal_field.specs.declared.HeaderFault.{HeaderFault}
 use Rattle.signal_field.specs.Headers.{IsReadAs}
-use Rattle.modem_links.specs.Fields.{IsFieldOf}
+use Rattle.frame_fields.specs.Fields.{IsFieldOf}
 use Rattle.frame_search.specs.Match.{matches, part}
 use Rattle.frame_reader.specs.Decisions.{plain_decisions}
 

@@ -1,8 +1,8 @@
 //! The field of a frame, once all its symbols were heard.
 ghost use Rattle.std.specs.Prelude.{◌≡◌, ℕ, ◌+◌, ◌*◌, ◌<◌, ◌≤◌, List, [], length, take, drop};
 ghost use Rattle.bit_lists.specs.Bits.{AreBits, octet_at, octets_of_bits};
+ghost use Rattle.frame_fields.specs.Fields.{NamesFront, psdu_in};
 ghost use Rattle.frame_reader.specs.Frames.{HasField, data_decisions, symbols_of};
-ghost use Rattle.modem_links.specs.Fields.{NamesFront, psdu_in};
 ghost use Rattle.rate_table.specs.declared.Rate.{Rate};
 ghost use Rattle.rate_table.specs.Symbols.{IsLength, bits_through_tail};
 ghost use Rattle.rate_table.specs.Table.{row_of};

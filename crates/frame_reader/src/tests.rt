@@ -6,7 +6,7 @@ ghost use Rattle.rate_table.specs.Table.{row_of};
 use crate::{finish_field, hear_symbol, look};
 use carrier_equaliser::Estimate;
 use fixed_complex::Sample;
-use modem_links::frame_samples;
+use frame_fields::frame_samples;
 use modem_ports::Steps;
 use ofdm_scrambler::Seed;
 use rate_table::Rate;

@@ -1,7 +1,7 @@
 use crate::{ReceiveFault, receive};
 use fixed_complex::Sample;
+use frame_fields::frame_samples;
 use frame_findings::{Heard, Reception};
-use modem_links::frame_samples;
 use modem_ports::Steps;
 use ofdm_scrambler::Seed;
 use rate_table::Rate;

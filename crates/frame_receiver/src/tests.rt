@@ -3,8 +3,8 @@ ghost use Rattle.std.specs.Prelude.{◌≡◌, ◌+◌, ◌^◌, ◌≤◌, leng
 use crate::reception::open_receiver;
 use crate::{Found, ReceiveFault, Receiver, receive};
 use fixed_complex::Sample;
+use frame_fields::frame_samples;
 use frame_findings::Cut;
-use modem_links::frame_samples;
 use modem_ports::Steps;
 use ofdm_scrambler::Seed;
 use rate_table::Rate;

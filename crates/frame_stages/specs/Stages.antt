@@ -4,7 +4,7 @@ use Rattle.bit_lists.specs.Text.{text_of_bits}
 use Rattle.command_words.specs.declared.Stage.{Stage}
 use Rattle.command_words.specs.declared.Stage.TheVariants.{Scrambled, Coded, Kept, Interleaved, Points, Header, Samples}
 use Rattle.data_field.specs.Stages.{field_at, code_at, kept_at, interleaved_at}
-use Rattle.modem_links.specs.Frames.{sent_frame, signal_code}
+use Rattle.frame_fields.specs.Frames.{sent_frame, signal_code}
 use Rattle.rate_table.specs.declared.Rate.{Rate}
 use Rattle.symbol_builder.specs.Points.{points_at}
 use Rattle.frame_stages.specs.Lines.{text_of_pairs, text_of_samples}

@@ -8,7 +8,7 @@ ghost use Rattle.rate_table.specs.Symbols.{IsLength};
 
 use bit_lists::put_text;
 use command_words::Stage;
-use modem_links::{coded as kept_code, frame_samples, signal_code};
+use frame_fields::{coded as kept_code, frame_samples, signal_code};
 use ofdm_scrambler::Seed;
 use rate_table::Rate;
 use std::alloc::{AllocError, Global};

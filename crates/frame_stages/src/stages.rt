@@ -10,7 +10,7 @@ ghost use Rattle.symbol_builder.specs.Points.{points_at};
 
 use conv_code::encode;
 use fixed_complex::Cx;
-use modem_links::{coded as kept_code, interleaved_symbol, points_of_code};
+use frame_fields::{coded as kept_code, interleaved_symbol, points_of_code};
 use ofdm_scrambler::Seed;
 use rate_table::Rate;
 use std::alloc::{AllocError, Global};

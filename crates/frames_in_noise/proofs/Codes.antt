@@ -12,10 +12,10 @@ use Rattle.data_field.specs.Stages.{kept_at}
 use Rattle.signal_field.specs.Signal.{header_bits_of}
 use Rattle.signal_field.proofs.Signal.{length-header_bits_of}
 use Rattle.symbol_builder.specs.Points.{points_of_code}
-use Rattle.modem_links.specs.Frames.{frame_points}
+use Rattle.frame_fields.specs.Frames.{frame_points}
 use Rattle.exact_decisions.specs.Sent.{code_of_symbol, rate_of_symbol}
-use Rattle.modem_links.proofs.Fields.{length-kept}
-use Rattle.modem_links.proofs.NearFrames.{AreBits-kept_at}
+use Rattle.frame_fields.proofs.Fields.{length-kept}
+use Rattle.frame_fields.proofs.NearFrames.{AreBits-kept_at}
 use Rattle.symbols_in_noise.proofs.Bounds.{bound_most}
 
 -- ---- symbol by symbol

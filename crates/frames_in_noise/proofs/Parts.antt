@@ -15,8 +15,8 @@ use Rattle.plain_waves.specs.Bodies.{all_times, plain_body}
 use Rattle.plain_waves.specs.Nearness.{AreNearPlain, IsNearPlain}
 use Rattle.training_fields.specs.Training.{long_carrier, long_times, preamble_of, short_carrier, short_times}
 use Rattle.frame_search.specs.Match.{part}
-use Rattle.modem_links.specs.Frames.{frame_bin}
-use Rattle.modem_links.proofs.FramePlaces.{in_preamble, in_symbol}
+use Rattle.frame_fields.specs.Frames.{frame_bin}
+use Rattle.frame_fields.proofs.FramePlaces.{in_preamble, in_symbol}
 use Rattle.starts_in_noise.proofs.Lengths.{length-preamble}
 use Rattle.symbols_in_noise.specs.Laws.{IsNearBody}
 use Rattle.frame_lists.specs.Near.{SentFrame, plain_of, samples_of}

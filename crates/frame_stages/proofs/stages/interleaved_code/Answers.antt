@@ -3,7 +3,7 @@ use Rattle.std.specs.Slice.Iter.{chunks_rest}
 use Rattle.interleave_two.specs.Place.{interleaved}
 use Rattle.rate_table.specs.Symbols.{symbol_count}
 use Rattle.rate_table.specs.Table.{row_of}
-use Rattle.modem_links.proofs.Symbols.{all_appended, next_symbol, no_symbol, some_coded, symbol_appended}
+use Rattle.frame_fields.proofs.Symbols.{all_appended, next_symbol, no_symbol, some_coded, symbol_appended}
 use Rattle.frame_stages.proofs.stages.interleaved_code.Goals as goal
 
 pub loop-symbol-preserved : goal.loop-symbol-preserved

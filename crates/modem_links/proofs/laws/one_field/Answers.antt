@@ -1,8 +1,0 @@
-use Rattle.modem_links.proofs.FieldLaws.{one_field, some_field}
-use Rattle.modem_links.proofs.laws.one_field.Goals as goal
-
-pub returns-clause-some : goal.returns-clause-some
-returns-clause-some c = some_field
-
-pub returns-clause-no_other : goal.returns-clause-no_other
-returns-clause-no_other c = one_field

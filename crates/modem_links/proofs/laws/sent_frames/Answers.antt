@@ -1,5 +1,0 @@
-use Rattle.modem_links.proofs.NearFrames.{near_frame, small_frame}
-use Rattle.modem_links.proofs.laws.sent_frames.Goals as goal
-
-pub returns : goal.returns
-returns c = record { near = near_frame; within = small_frame }

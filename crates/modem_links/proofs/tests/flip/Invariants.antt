@@ -1,5 +1,0 @@
-use Rattle.bit_lists.specs.Bits.{AreBits}
-use Rattle.modem_links.proofs.tests.flip.Given as goal
-
-abbrev pub invariant-loop-place : goal.invariant-loop-place
-invariant-loop-place l = AreBits l.bits
