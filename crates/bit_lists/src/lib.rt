@@ -8,6 +8,7 @@ ghost use Rattle.bit_lists.specs.declared.TextFault.TheVariants.{NoMemory};
 ghost use Rattle.byte_lanes.specs.Differences.{differences_of};
 
 use byte_lanes::differences;
+use character_texts::without_newline;
 use std::alloc::{AllocError, Global};
 use std::marker::Model;
 use thiserror::Error;
@@ -187,18 +188,6 @@ fn push_bit(bits: &mut Vec<u8>, bit: u8) -> Result<(), AllocError>
 {
     bits.push(bit)?;
     Ok(())
-}
-
-// A text without the newline at its very end, if it has one.
-fn without_newline(text: &[u8]) -> &[u8]
-    ensures front { (result.now ≡ text.now) ⊎ (text.now ≡ result.now ++ 10 ∷ []) }
-    ensures stripped { (at : ℕ) → at + 1 ≡ length text.now → slice_index text.now at ≡ 10
-        → text.now ≡ result.now ++ 10 ∷ [] }
-{
-    match text {
-        [characters @ .., b'\n'] => characters,
-        _ => text,
-    }
 }
 
 // Appends the eight bits of one octet.

@@ -1,0 +1,5 @@
+pub mod Marks
+pub mod Values
+pub mod Fields
+pub mod Text
+pub mod Laws
