@@ -3,4 +3,5 @@ pub mod Inputs
 mod OfText
 pub mod Outcomes
 mod Flipped
+mod InNoise
 mod Received

@@ -1,6 +1,8 @@
 -- What holds of outcomes, for every input: what the laws ensure (own).
 use Rattle.std.specs.Prelude.{◌≡◌, ℕ, List}
+use Rattle.frame_lists.specs.Near.{SentFrame}
 use Rattle.command_answers.specs.Flips.{IsFlippedText}
+use Rattle.command_answers.specs.InNoise.{IsCaptureInNoise, lines_of}
 use Rattle.command_answers.specs.InOrder.{Outcome, Writes}
 use Rattle.command_answers.specs.Outcome.{HasOutcome}
 
@@ -21,3 +23,9 @@ abbrev pub FlippedTextGivesItsPsdu : Type 0
 FlippedTextGivesItsPsdu =
     (words : List (List ℕ)) (bytes psdu : List ℕ)
     → IsFlippedText words bytes psdu → HasOutcome words bytes (Writes psdu)
+
+-- the outcome of a capture of frames in noise: the lines of exactly these frames are written, in order
+abbrev pub CaptureInNoiseGivesItsFrames : Type 0
+CaptureInNoiseGivesItsFrames =
+    (words : List (List ℕ)) (bytes : List ℕ) (frames : List SentFrame)
+    → IsCaptureInNoise words bytes frames → HasOutcome words bytes (Writes (lines_of frames))

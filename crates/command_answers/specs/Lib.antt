@@ -5,4 +5,5 @@ pub mod Answers
 pub mod Receiving
 pub mod Outcome
 pub mod Flips
+pub mod InNoise
 pub mod Laws

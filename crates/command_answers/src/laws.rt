@@ -1,8 +1,9 @@
 //! What holds of outcomes, for every input. Its functions do nothing: what each ensures is the law.
-ghost use Rattle.command_answers.specs.Laws.{FlippedTextGivesItsPsdu, OneOutcome, SomeOutcome};
+ghost use Rattle.command_answers.specs.Laws.{CaptureInNoiseGivesItsFrames, FlippedTextGivesItsPsdu, OneOutcome, SomeOutcome};
 
 use frame_fields::laws::{few_flips, one_field};
 use frame_findings::laws::{one_reception, one_report};
+use frames_in_noise::laws::noise_is_withstood;
 
 /// All words and all bytes have exactly one outcome (own).
 pub fn outcome_is_one()
@@ -20,4 +21,13 @@ pub fn flipped_text_gives_its_psdu()
     ensures { FlippedTextGivesItsPsdu }
 {
     few_flips();
+}
+
+/// What `receive` is asked to write of a capture that is near a list of frames, each within the noise
+/// bound of its rate (64, 36, 16 or 8), and within 64 of silence elsewhere: the lines of exactly these
+/// frames, in order (own).
+pub fn capture_in_noise_gives_its_frames()
+    ensures { CaptureInNoiseGivesItsFrames }
+{
+    noise_is_withstood();
 }

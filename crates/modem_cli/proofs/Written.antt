@@ -5,9 +5,8 @@ use Rattle.std.specs.Result.{OnErr, OnOk}
 use Rattle.modem_ports.specs.Told.{Takes, TakesPrefix}
 use Rattle.report_lines.specs.declared.Status.{Status}
 use Rattle.report_lines.specs.declared.Status.TheVariants as status
-use Rattle.command_answers.specs.Flips.{IsFlippedText}
 use Rattle.command_answers.specs.InOrder.{Writes}
-use Rattle.command_answers.specs.Laws.{FlippedTextGivesItsPsdu, OneOutcome}
+use Rattle.command_answers.specs.Laws.{OneOutcome}
 use Rattle.command_answers.specs.Outcome.{HasOutcome, IsOutcome}
 use Rattle.modem_cli.specs.Report.{IsWrittenUnlessNoMemory, TakesAnswer, TakesAnswerPrefix}
 
@@ -27,22 +26,25 @@ pub whole_or_part : {T E : Type 0} (result : Result T E) (Whole Failed Part : Ty
 whole_or_part (Ok x) Whole Failed Part whole failed part = inl whole
 whole_or_part (Err e) Whole Failed Part whole failed part = inr (failed, part)
 
--- of a text with few flips, a run that answered wrote the PSDU
-pub repaired_where_answered : OneOutcome → FlippedTextGivesItsPsdu → (words : List (List ℕ)) (left : Option (List ℕ)) (before after : Option (List ℕ)) (ended : Status)
-    → ended ≡ status.Ok → TakesAnswer words left before after
-    → IfSome left (λ bytes. (psdu : List ℕ) → IsFlippedText words bytes psdu → IsWrittenUnlessNoMemory ended psdu before after)
-repaired_where_answered one flipped words None before after ended is taken = tt
-repaired_where_answered one flipped words (Some bytes) before after ended is taken = λ psdu h.
-    let same = one words bytes (Writes taken.0) (Writes psdu) taken.1 (flipped words bytes psdu h) in
-    let answer : taken.0 ≡ psdu = cc in
+-- where what is asked says what is written, a run that answered wrote it
+pub written_where_answered : {X : Type 0} → OneOutcome → (words : List (List ℕ)) (Asked : List ℕ → X → Type 0) (answer_to : X → List ℕ)
+    → ((bytes : List ℕ) (x : X) → Asked bytes x → HasOutcome words bytes (Writes (answer_to x)))
+    → (left : Option (List ℕ)) (before after : Option (List ℕ)) (ended : Status) → ended ≡ status.Ok → TakesAnswer words left before after
+    → IfSome left (λ bytes. (x : X) → Asked bytes x → IsWrittenUnlessNoMemory ended (answer_to x) before after)
+written_where_answered one words Asked answer_to gives None before after ended is taken = tt
+written_where_answered one words Asked answer_to gives (Some bytes) before after ended is taken = λ x h.
+    let same = one words bytes (Writes taken.0) (Writes (answer_to x)) taken.1 (gives bytes x h) in
+    let answer : taken.0 ≡ answer_to x = cc in
     record { well = inl is; taken = λ well. subst (λ list. Takes before list after) answer taken.2 }
 
 -- .. and a run that was refused wanted memory
-pub repaired_where_refused : FlippedTextGivesItsPsdu → (words : List (List ℕ)) (left : Option (List ℕ)) (before after : Option (List ℕ)) (ended : Status) → (ended ≡ status.Ok → ⊥)
+pub written_where_refused : {X : Type 0} → (words : List (List ℕ)) (Asked : List ℕ → X → Type 0) (answer_to : X → List ℕ)
+    → ((bytes : List ℕ) (x : X) → Asked bytes x → HasOutcome words bytes (Writes (answer_to x)))
+    → (left : Option (List ℕ)) (before after : Option (List ℕ)) (ended : Status) → (ended ≡ status.Ok → ⊥)
     → IfSome left (λ bytes. (answer : List ℕ) → HasOutcome words bytes (Writes answer) → (ended ≡ status.Ok) ⊎ (ended ≡ status.NoMemory))
-    → IfSome left (λ bytes. (psdu : List ℕ) → IsFlippedText words bytes psdu → IsWrittenUnlessNoMemory ended psdu before after)
-repaired_where_refused flipped words None before after ended refused answers = tt
-repaired_where_refused flipped words (Some bytes) before after ended refused answers = λ psdu h. record {
-  well = answers psdu (flipped words bytes psdu h);
+    → IfSome left (λ bytes. (x : X) → Asked bytes x → IsWrittenUnlessNoMemory ended (answer_to x) before after)
+written_where_refused words Asked answer_to gives None before after ended refused answers = tt
+written_where_refused words Asked answer_to gives (Some bytes) before after ended refused answers = λ x h. record {
+  well = answers (answer_to x) (gives bytes x h);
   taken = λ well. absurd (refused well);
 }

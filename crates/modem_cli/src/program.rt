@@ -2,12 +2,14 @@
 ghost use Rattle.std.specs.Prelude.{◌≡◌, ◌≢◌, ◌↔◌, ◌+◌, ◌*◌, ◌/◌, ◌≤◌, ◌⊎◌, List, ℕ, length, IfErr, IfSome, IsErrAnd, IsErrOf, OnOk};
 ghost use Rattle.std.specs.Result.{result_err};
 ghost use Rattle.command_answers.specs.Flips.{IsFlippedText};
+ghost use Rattle.command_answers.specs.InNoise.{IsCaptureInNoise, lines_of};
 ghost use Rattle.command_answers.specs.InOrder.{Outcome, Refuses, Writes};
 ghost use Rattle.command_answers.specs.Inputs.{Reads, reads};
 ghost use Rattle.command_answers.specs.Outcome.{AreRefused, HasOutcome, IsOutcome, MayFollow, ReadsInput, most_accepted, most_taken};
 ghost use Rattle.command_words.specs.declared.Command.{Command};
 ghost use Rattle.command_words.specs.Asking.{AreRefusedFor, AskForNothing};
 ghost use Rattle.command_words.specs.Grammar.{Say, texts_of};
+ghost use Rattle.frame_lists.specs.Near.{SentFrame};
 ghost use Rattle.modem_cli.specs.Report.{IsReported, IsWrittenUnlessNoMemory, TakesAnswer, TakesAnswerPrefix, TakesReport};
 ghost use Rattle.modem_ports.specs.Counts.{Rose};
 ghost use Rattle.modem_ports.specs.Limits.{most_input};
@@ -16,7 +18,9 @@ ghost use Rattle.rate_table.specs.Symbols.{most_octets};
 ghost use Rattle.report_lines.specs.declared.Refusal.{Refusal};
 ghost use Rattle.report_lines.specs.Refusals.{IsDecided, asking, status_of, step_of};
 
-use command_answers::laws::{flipped_text_gives_its_psdu, outcome_is_one};
+use command_answers::laws::{
+    capture_in_noise_gives_its_frames, flipped_text_gives_its_psdu, outcome_is_one,
+};
 use command_answers::{answer_from, write_answer};
 use command_words::read_request;
 use modem_ports::{Discard, NeverFails, Sink, Source, Steps, write_all};
@@ -87,6 +91,14 @@ pub fn run<S: Source, K: Sink, E: Sink>(
         → HasOutcome (texts_of words.now) bytes (Refuses refusal)
         → (result ≡ status_of refusal) ⊎ (result ≡ Status.NoMemory)) }
 
+    // A capture of frames in noise, which `receive` is asked to read, gives the lines of exactly these
+    // frames, in order.
+    ensures withstood { ¬ Rose (S.faults source.old) (S.faults source.new)
+        → ¬ Rose (K.faults out.old) (K.faults out.new)
+        → IfSome (S.left source.old) (λ bytes. (frames : List SentFrame)
+        → IsCaptureInNoise (texts_of words.now) bytes frames
+        → IsWrittenUnlessNoMemory result (lines_of frames) (K.taken out.old) (K.taken out.new)) }
+
     // The text of a field's kept code with few flips, which `decode` is asked to read, gives that
     // field's PSDU.
     ensures repaired { ¬ Rose (S.faults source.old) (S.faults source.new)
@@ -109,6 +121,7 @@ pub fn run<S: Source, K: Sink, E: Sink>(
 {
     // laws; they do nothing
     outcome_is_one();
+    capture_in_noise_gives_its_frames();
     flipped_text_gives_its_psdu();
 
     match execute(alloc, words, source, out, steps) {

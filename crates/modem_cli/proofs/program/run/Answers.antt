@@ -7,9 +7,11 @@ use Rattle.report_lines.specs.declared.Refusal.TheVariants.{LongCapture, LongPsd
 use Rattle.report_lines.specs.declared.Status.TheVariants as status
 use Rattle.report_lines.specs.Refusals.{status_of}
 use Rattle.command_words.specs.Grammar.{texts_of}
+use Rattle.command_answers.specs.Flips.{IsFlippedText}
+use Rattle.command_answers.specs.InNoise.{IsCaptureInNoise, lines_of}
 use Rattle.report_lines.proofs.ByKind.{no_refusal_is_ok}
 use Rattle.modem_cli.proofs.Refused.{answered_follows, answered_refuses, bad_words, refused_answers, refused_ask_nothing, refused_follows, refused_refuses, refuses_words, where_refused}
-use Rattle.modem_cli.proofs.Written.{repaired_where_answered, repaired_where_refused}
+use Rattle.modem_cli.proofs.Written.{written_where_answered, written_where_refused}
 use Rattle.modem_cli.proofs.program.run.Goals as goal
 
 pub returns-in-Ok-clause-bad_words : goal.returns-in-Ok-clause-bad_words
@@ -54,7 +56,13 @@ returns-in-Err-clause-follows g c =
 
 pub returns-in-Ok-clause-repaired : goal.returns-in-Ok-clause-repaired
 returns-in-Ok-clause-repaired g c = λ unread unwritten.
-    repaired_where_answered c.outcome_is_one.ensures.only c.flipped_text_gives_its_psdu.ensures (texts_of c.args.words.now) (g.S.Source.left c.args.source.now) (g.K.Sink.taken c.args.out.now) (g.K.Sink.taken c.execute.new.out) _ refl c.in-Ok.ensures.ok
+    written_where_answered c.outcome_is_one.ensures.only (texts_of c.args.words.now) (IsFlippedText (texts_of c.args.words.now)) (λ psdu. psdu)
+    (c.flipped_text_gives_its_psdu.ensures (texts_of c.args.words.now)) (g.S.Source.left c.args.source.now) (g.K.Sink.taken c.args.out.now) (g.K.Sink.taken c.execute.new.out) _ refl c.in-Ok.ensures.ok
+
+pub returns-in-Ok-clause-withstood : goal.returns-in-Ok-clause-withstood
+returns-in-Ok-clause-withstood g c = λ unread unwritten.
+    written_where_answered c.outcome_is_one.ensures.only (texts_of c.args.words.now) (IsCaptureInNoise (texts_of c.args.words.now)) lines_of
+    (c.capture_in_noise_gives_its_frames.ensures (texts_of c.args.words.now)) (g.S.Source.left c.args.source.now) (g.K.Sink.taken c.args.out.now) (g.K.Sink.taken c.execute.new.out) _ refl c.in-Ok.ensures.ok
 
 pub returns-in-Ok-clause-follows : goal.returns-in-Ok-clause-follows
 returns-in-Ok-clause-follows g c =
@@ -62,7 +70,14 @@ returns-in-Ok-clause-follows g c =
 
 pub returns-in-Err-clause-repaired : goal.returns-in-Err-clause-repaired
 returns-in-Err-clause-repaired g c = λ unread unwritten.
-    repaired_where_refused c.flipped_text_gives_its_psdu.ensures (texts_of c.args.words.now) (g.S.Source.left c.args.source.now) (g.K.Sink.taken c.args.out.now) (g.K.Sink.taken c.execute.new.out) c.refuse.result
+    written_where_refused (texts_of c.args.words.now) (IsFlippedText (texts_of c.args.words.now)) (λ psdu. psdu)
+    (c.flipped_text_gives_its_psdu.ensures (texts_of c.args.words.now)) (g.S.Source.left c.args.source.now) (g.K.Sink.taken c.args.out.now) (g.K.Sink.taken c.execute.new.out) c.refuse.result
+    (λ is. no_refusal_is_ok c.in-Err.refusal (rw c.refuse.ensures.status at is)) (returns-in-Err-clause-answers g c unread unwritten)
+
+pub returns-in-Err-clause-withstood : goal.returns-in-Err-clause-withstood
+returns-in-Err-clause-withstood g c = λ unread unwritten.
+    written_where_refused (texts_of c.args.words.now) (IsCaptureInNoise (texts_of c.args.words.now)) lines_of
+    (c.capture_in_noise_gives_its_frames.ensures (texts_of c.args.words.now)) (g.S.Source.left c.args.source.now) (g.K.Sink.taken c.args.out.now) (g.K.Sink.taken c.execute.new.out) c.refuse.result
     (λ is. no_refusal_is_ok c.in-Err.refusal (rw c.refuse.ensures.status at is)) (returns-in-Err-clause-answers g c unread unwritten)
 
 pub returns-in-Err-clause-read_to_limit : goal.returns-in-Err-clause-read_to_limit
