@@ -1,0 +1,4 @@
+pub mod Back
+pub mod Drawing
+pub mod Noisy
+pub mod Totals

@@ -1,0 +1,4 @@
+pub mod Draws
+pub mod Captures
+pub mod Summaries
+pub mod Laws
