@@ -10,6 +10,8 @@ use std::{env, io};
 
 mod program;
 #[cfg(test)]
+mod receive_tests;
+#[cfg(test)]
 mod tests;
 
 pub use command_words::read_words;

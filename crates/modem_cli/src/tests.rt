@@ -11,7 +11,7 @@ const ROOM: usize = 500_000;
 
 // A run: its command line, its input, and what it must come to.
 #[derive(Clone, Copy)]
-struct Row<'a> {
+pub(crate) struct Row<'a> {
     line: &'a str,
     input: &'a [u8],
     status: Status,
@@ -21,7 +21,7 @@ struct Row<'a> {
 
 // What a run must write: these bytes, or so many with these at these places.
 #[derive(Clone, Copy)]
-enum Out<'a> {
+pub(crate) enum Out<'a> {
     Whole(&'a [u8]),
     Parts(usize, &'a [(usize, &'a [u8])]),
 }
@@ -41,7 +41,7 @@ impl Out<'_> {
 }
 
 // A run that answers.
-fn answers<'a>(line: &'a str, input: &'a [u8], out: Out<'a>) -> Row<'a> {
+pub(crate) fn answers<'a>(line: &'a str, input: &'a [u8], out: Out<'a>) -> Row<'a> {
     Row {
         line,
         input,
@@ -52,7 +52,12 @@ fn answers<'a>(line: &'a str, input: &'a [u8], out: Out<'a>) -> Row<'a> {
 }
 
 // A run that is refused, and writes nothing.
-fn refused<'a>(line: &'a str, input: &'a [u8], status: Status, report: &'a str) -> Row<'a> {
+pub(crate) fn refused<'a>(
+    line: &'a str,
+    input: &'a [u8],
+    status: Status,
+    report: &'a str,
+) -> Row<'a> {
     Row {
         line,
         input,
@@ -63,8 +68,18 @@ fn refused<'a>(line: &'a str, input: &'a [u8], status: Status, report: &'a str) 
 }
 
 // Runs a row, and compares what it came to.
-fn check(rt: &impl Abort, alloc: Global, row: &Row) -> Result<(), AllocError> {
-    let mut source = MemSource::open(alloc, row.input, 1000, &[])?;
+pub(crate) fn check(rt: &impl Abort, alloc: Global, row: &Row) -> Result<(), AllocError> {
+    check_in_pieces(rt, alloc, 1000, row)
+}
+
+// The same over a source that gives so many bytes a call, and at least one.
+pub(crate) fn check_in_pieces(
+    rt: &impl Abort,
+    alloc: Global,
+    most: usize,
+    row: &Row,
+) -> Result<(), AllocError> {
+    let mut source = MemSource::open(alloc, row.input, most.max(1), &[])?;
     let mut out = MemSink::open(alloc, ROOM, 4096, &[])?;
     let ran = run_line(alloc, row.line, &mut source, &mut out)?;
     assert!(rt; ran.0 == row.status, "status of {}", row.line);
@@ -78,7 +93,7 @@ fn check(rt: &impl Abort, alloc: Global, row: &Row) -> Result<(), AllocError> {
 }
 
 // The words of a command line.
-fn words_of(alloc: Global, line: &str) -> Result<Vec<String>, AllocError> {
+pub(crate) fn words_of(alloc: Global, line: &str) -> Result<Vec<String>, AllocError> {
     let mut words = Vec::new(alloc);
     for word in line.split_whitespace() {
         words.push(String::from_str(alloc, word)?)?;
@@ -87,7 +102,7 @@ fn words_of(alloc: Global, line: &str) -> Result<Vec<String>, AllocError> {
 }
 
 // Runs a command line over a source and a sink, and gives the status and what was reported.
-fn run_line<S: Source, K: Sink>(
+pub(crate) fn run_line<S: Source, K: Sink>(
     alloc: Global,
     line: &str,
     source: &mut S,
@@ -101,7 +116,7 @@ fn run_line<S: Source, K: Sink>(
 }
 
 // The octets 0 to 99.
-fn a_hundred_octets() -> [u8; 100] {
+pub(crate) fn a_hundred_octets() -> [u8; 100] {
     let mut octets = [0; 100];
     for octet in 0..100u8 {
         octets[usize::from(octet)] = octet;
@@ -429,15 +444,17 @@ fn decodes_what_bits_wrote_with_flips(rt: HostRuntime) -> Result<(), Fail> {
     Ok(())
 }
 
-// Three calls give an octet each, and the fourth finds the end; two calls give the octets, and the third finds the end.
+// Three calls give an octet each, and the fourth finds the end; two calls give the octets; six give the capture.
 #[test]
 fn reports_a_failing_source(rt: HostRuntime) -> Result<(), Fail> {
     let octets = a_hundred_octets();
+    let frame = written(rt.alloc(), "send 36 93", &octets)?;
     for (line, input, most, calls) in [
         ("bits 6 93", &octets[..3], 1, 4),
         ("send 36 93", &octets[..], 64, 3),
+        ("receive", &frame[..], 700, 7),
     ] {
-        for call in 1..6u64 {
+        for call in 1..9u64 {
             let mut source = MemSource::open(rt.alloc(), input, most, &[call])?;
             let mut out = MemSink::open(rt.alloc(), ROOM, 1000, &[])?;
             let ran = run_line(rt.alloc(), line, &mut source, &mut out)?;
@@ -461,13 +478,15 @@ fn reports_a_failing_source(rt: HostRuntime) -> Result<(), Fail> {
     Ok(())
 }
 
-// The 97 bytes go in pieces of 40, and the 3520 in pieces of 1000.
+// The 97 bytes go in pieces of 40, the 3520 in pieces of 1000, and the 219 of the frame's line in pieces of 100.
 #[test]
 fn reports_a_failing_sink(rt: HostRuntime) -> Result<(), Fail> {
     let octets = a_hundred_octets();
+    let frame = written(rt.alloc(), "send 36 93", &octets)?;
     for (line, input, most, calls) in [
         ("bits 6 93", &octets[..1], 40, 3),
         ("send 36 93", &octets[..], 1000, 4),
+        ("receive", &frame[..], 100, 3),
     ] {
         let mut source = MemSource::open(rt.alloc(), input, 64, &[])?;
         let mut whole = MemSink::open(rt.alloc(), 4000, most, &[])?;
@@ -529,6 +548,7 @@ fn refuses_endless_inputs(rt: HostRuntime) -> Result<(), Fail> {
     let rows = [
         ("bits 6 93", "error 3: psdu over 4095 octets\n"),
         ("decode 6 1", "error 5: input over 67108864 bytes\n"),
+        ("receive", "error 5: input over 67108864 bytes\n"),
     ];
     for (line, report) in rows {
         let ran = run_line(
@@ -572,7 +592,7 @@ fn decodes_over_ports_that_never_fail(rt: HostRuntime) -> Result<(), Fail> {
 }
 
 // The bytes of what a command line writes.
-fn written(alloc: Global, line: &str, input: &[u8]) -> Result<Vec<u8>, AllocError> {
+pub(crate) fn written(alloc: Global, line: &str, input: &[u8]) -> Result<Vec<u8>, AllocError> {
     let mut source = MemSource::open(alloc, input, 1000, &[])?;
     let mut out = MemSink::open(alloc, ROOM, 4096, &[])?;
     run_line(alloc, line, &mut source, &mut out)?;
@@ -580,7 +600,7 @@ fn written(alloc: Global, line: &str, input: &[u8]) -> Result<Vec<u8>, AllocErro
 }
 
 // The bytes of a capture after a script.
-fn after(alloc: Global, script: &str, input: &[u8]) -> Result<Vec<u8>, AllocError> {
+pub(crate) fn after(alloc: Global, script: &str, input: &[u8]) -> Result<Vec<u8>, AllocError> {
     let mut words = words_of(alloc, "noise")?;
     words.push(String::from_str(alloc, script)?)?;
     let mut source = MemSource::open(alloc, input, 1000, &[])?;
@@ -637,78 +657,5 @@ fn inspects_a_hostile_capture(rt: HostRuntime) -> Result<(), Fail> {
         rt.alloc(),
         &answers("inspect", &capture, Out::Whole(lines.as_bytes())),
     )?;
-    Ok(())
-}
-
-// The line of a frame of the octets 0 to 99 at a place.
-fn line_of_a_hundred(alloc: Global, start: u32) -> Result<String, AllocError> {
-    let mut line = format!(in alloc; "frame {start} 36 100 93 ")?;
-    for octet in 0..100u8 {
-        line.push_str(&format!(in alloc; "{octet:02x}")?)?;
-    }
-    line.push_str("\n")?;
-    Ok(line)
-}
-
-// Two frames, 16 zero samples apart, and the second without its last sample.
-#[test]
-fn receives_frames(rt: HostRuntime) -> Result<(), Fail> {
-    let frame = written(rt.alloc(), "send 36 93", &a_hundred_octets())?;
-    let first = line_of_a_hundred(rt.alloc(), 0)?;
-    check(
-        &rt,
-        rt.alloc(),
-        &answers("receive", &frame, Out::Whole(first.as_bytes())),
-    )?;
-    let mut two = Vec::from_slice(rt.alloc(), &frame)?;
-    two.extend_from_slice(&[0; 64])?;
-    two.extend_from_slice(&frame)?;
-    let mut lines = String::from_str(rt.alloc(), first.as_str())?;
-    lines.push_str(&line_of_a_hundred(rt.alloc(), 896)?)?;
-    check(
-        &rt,
-        rt.alloc(),
-        &answers("receive", &two, Out::Whole(lines.as_bytes())),
-    )?;
-    let mut lines = String::from_str(rt.alloc(), first.as_str())?;
-    lines.push_str("cut 896 879 880\n")?;
-    let cut = &two[..two.len() - 4];
-    check(
-        &rt,
-        rt.alloc(),
-        &answers("receive", cut, Out::Whole(lines.as_bytes())),
-    )?;
-    Ok(())
-}
-
-// The first so many bytes, or all where there are fewer.
-fn front(bytes: &[u8], count: usize) -> &[u8] {
-    &bytes[..count.min(bytes.len())]
-}
-
-#[test]
-fn refuses_what_is_no_frame(rt: HostRuntime) -> Result<(), Fail> {
-    let frame = written(rt.alloc(), "send 36 93", &a_hundred_octets())?;
-    let rows: [(&[u8], Status, &str); 4] = [
-        (b"", Status::NoFrame, "error 8: no frame\n"),
-        (&[0; 4000], Status::NoFrame, "error 8: no frame\n"),
-        (
-            front(&frame, 3516),
-            Status::CutFrame,
-            "error 9: frame at 0 has 879 of 880 samples\n",
-        ),
-        (
-            front(&frame, 3517),
-            Status::BadInput,
-            "error 4: capture ends after 3517 bytes\n",
-        ),
-    ];
-    for (capture, status, report) in rows {
-        check(
-            &rt,
-            rt.alloc(),
-            &refused("receive", capture, status, report),
-        )?;
-    }
     Ok(())
 }
