@@ -1,0 +1,6 @@
+pub mod Decisions
+pub mod HexDigits
+pub mod Lines
+pub mod Lists
+pub mod Rates
+pub mod Sames
