@@ -1,8 +1,12 @@
 pub mod LaneSums
+pub mod Bounds
+pub mod WordLanes
 pub mod Totals
+pub mod FourLanes
 pub mod Parts
 pub mod Wholes
-pub mod Widening
+pub mod Masks
 pub mod Scans
+pub mod Extremes
 pub mod Holding
 pub mod Storing

@@ -10,14 +10,14 @@ use Rattle.fixed_complex.specs.Samples.{sample_at}
 use Rattle.lane_kernels.proofs.Wholes.{sample-chunk}
 
 -- a quiet chunk more
-pub quiet-more : (a : List Sample) (i j : ℕ) → j ≡ i + 8 → ((n : ℕ) → n < i → is_loud (sample_at a n) ≡ false) → ((n : ℕ) → n < 8 → is_loud (sample_at (slice_range a i j) n) ≡ false) → (n : ℕ) → n < j → is_loud (sample_at a n) ≡ false
+pub quiet-more : (a : List Sample) (i j : ℕ) → j ≡ i + 16 → ((n : ℕ) → n < i → is_loud (sample_at a n) ≡ false) → ((n : ℕ) → n < 16 → is_loud (sample_at (slice_range a i j) n) ≡ false) → (n : ℕ) → n < j → is_loud (sample_at a n) ≡ false
 quiet-more a i j e before chunk n below =
     elim (cases_lt n i) [
       | inl here ↦ before n here
       | inr past ↦
           let at : i + (n - i) ≡ n = omega arith in
-          let within : n - i < 8 = omega arith in
-          let quiet = rw (sample-chunk a i j (n - i) e within) at (chunk (n - i) within) in
+          let within : n - i < 16 = omega arith in
+          let quiet = rw (sample-chunk a 16 i j (n - i) e within) at (chunk (n - i) within) in
           rw at at quiet
     ]
 

@@ -1,5 +1,5 @@
 -- Samples stored place by place.
-use Rattle.std.proofs.Common.{◌≡◌, inl, inr, ◌≢◌, ℕ, zero, suc, ◌+◌, ◌<◌, ◌≤◌, List, [], ◌∷◌, length, set, ℤ, pos, negsuc, ◌+ℤ◌, to_z, of_z, refl, sym, ap, ◌∙◌, arith, get_or-set_other, get_or-set_same}
+use Rattle.std.proofs.Common.{◌≡◌, inl, inr, ◌≢◌, ℕ, zero, suc, ◌+◌, ◌*◌, ◌<◌, ◌≤◌, List, [], ◌∷◌, length, set, ℤ, pos, negsuc, ◌+ℤ◌, to_z, of_z, refl, sym, ap, ◌∙◌, arith, get_or-set_other, get_or-set_same}
 use Rattle.std.proofs.lemmas.Bool.{cases_lt}
 use Rattle.std.specs.Prelude.{FitsSigned}
 use Rattle.std.specs.Int.{saturate_signed}
@@ -7,20 +7,13 @@ use Rattle.std.proofs.lemmas.Int.{ints, clamps, to_z-of_z}
 use Rattle.std.proofs.lemmas.List.{ext_get_or}
 use Rattle.fixed_complex.specs.declared.Sample.{Sample}
 use Rattle.lane_kernels.specs.Kernels.{held, held_sum, held_sums}
-use Rattle.lane_kernels.specs.Lanes.{HoldsSums, eight}
+use Rattle.lane_kernels.specs.Lanes.{HoldsSums, components_of, eight}
 use Rattle.fixed_complex.specs.Numbers.{number_at}
 use Rattle.fixed_complex.specs.Samples.{sample_at}
 use Rattle.lane_kernels.proofs.Holding.{held-fits}
+use Rattle.lane_kernels.proofs.FourLanes.{first_four}
 use Rattle.lane_kernels.proofs.Totals.{eight-at}
 use mir.Syntax.{w16}
-
--- nothing stored yet
-pub sums-none : (from upto : ℕ) (old b : List Sample) → upto ≤ from → HoldsSums from upto old b old
-sums-none from upto old b h = record {
-  before = λ n _. refl;
-  within = λ n least below. absurd (omega arith);
-  behind = λ n _. refl;
-}
 
 -- one place more
 pub sums-more : (from upto next : ℕ) (old b new : List Sample) (value : Sample) → next ≡ upto + 1 → from ≤ upto → upto < length new → value ≡ held_sum (sample_at old upto) (sample_at b upto) → HoldsSums from upto old b new → HoldsSums from next old b (set new upto value)
@@ -48,16 +41,28 @@ sums-join from mid upto old b half new low high first second = record {
   behind = λ n past. second.behind n past ∙ first.behind n (omega arith);
 }
 
--- a held sum in its lane
-pub lane-held : (x y new : List ℤ) (f g : ℕ → ℤ) → x ≡ eight f → y ≡ eight g → new ≡ eight (λ n. held (number_at x n +ℤ number_at y n)) → (n : ℕ) → n < 8 → to_z w16 (of_z w16 (number_at new n)) ≡ held (f n +ℤ g n)
-lane-held x y new f g x_is y_is new_is n below =
-    let x_at : number_at x n ≡ f n = ap (λ l. number_at l n) x_is ∙ eight-at f n below in
-    let y_at : number_at y n ≡ g n = ap (λ l. number_at l n) y_is ∙ eight-at g n below in
-    let here : number_at new n ≡ held (f n +ℤ g n) =
-    ap (λ l. number_at l n) new_is
-    ∙ (eight-at (λ m. held (number_at x m +ℤ number_at y m)) n below
-    ∙ (ap (λ z. held (z +ℤ number_at y n)) x_at ∙ ap (λ z. held (f n +ℤ z)) y_at)) in
-    rw here (to_z-of_z w16 (held (f n +ℤ g n)) (held-fits (f n +ℤ g n)))
+-- a held sum's components in their lanes
+abbrev held_lanes : List ℤ → List ℤ → ℕ → ℤ
+held_lanes x y n = held (number_at x n +ℤ number_at y n)
+
+lane-held : (x y new : List ℤ) (m : ℕ) (a b : ℤ) → new ≡ eight (held_lanes x y) → m < 8 → number_at x m ≡ a → number_at y m ≡ b → to_z w16 (of_z w16 (number_at new m)) ≡ held (a +ℤ b)
+lane-held x y new m a b is below x_at y_at =
+    let here : number_at new m ≡ held (a +ℤ b) =
+    ap (λ l. number_at l m) is ∙ (eight-at (held_lanes x y) m below ∙ (ap (λ z. held (z +ℤ number_at y m)) x_at ∙ ap (λ z. held (a +ℤ z)) y_at)) in
+    rw here (to_z-of_z w16 (held (a +ℤ b)) (held-fits (a +ℤ b)))
+
+i-at : (f : ℕ → Sample) (n : ℕ) → n < 4 → number_at (components_of f) (2 * n) ≡ (f n).i
+i-at f = first_four (λ n. number_at (components_of f) (2 * n) ≡ (f n).i) refl refl refl refl
+
+q-at : (f : ℕ → Sample) (n : ℕ) → n < 4 → number_at (components_of f) (2 * n + 1) ≡ (f n).q
+q-at f = first_four (λ n. number_at (components_of f) (2 * n + 1) ≡ (f n).q) refl refl refl refl
+
+pub sample-held : (x y new : List ℤ) (f g : ℕ → Sample) → x ≡ components_of f → y ≡ components_of g → new ≡ eight (λ n. held (number_at x n +ℤ number_at y n)) → (n : ℕ) → n < 4
+    → (to_z w16 (of_z w16 (number_at new (2 * n))) ≡ held ((f n).i +ℤ (g n).i)) × (to_z w16 (of_z w16 (number_at new (2 * n + 1))) ≡ held ((f n).q +ℤ (g n).q))
+sample-held x y new f g x_is y_is is n below = (
+  lane-held x y new (2 * n) (f n).i (g n).i is (omega arith) (ap (λ l. number_at l (2 * n)) x_is ∙ i-at f n below) (ap (λ l. number_at l (2 * n)) y_is ∙ i-at g n below),
+  lane-held x y new (2 * n + 1) (f n).q (g n).q is (omega arith) (ap (λ l. number_at l (2 * n + 1)) x_is ∙ q-at f n below) (ap (λ l. number_at l (2 * n + 1)) y_is ∙ q-at g n below),
+)
 
 -- std's saturation holds a number
 pub saturated : (v : ℤ) → saturate_signed w16 v ≡ held v

@@ -1,99 +1,70 @@
-//! Eight samples' components in lanes, and sums of products of eight numbers.
-ghost use Rattle.std.specs.Prelude.{◌≡◌, ◌+◌, ◌*◌, ◌/◌, ◌^◌, ◌<◌, ◌≤◌, length, ℤ, ◌+ℤ◌, ◌-ℤ◌, ◌*ℤ◌, unsigned_abs};
+//! Four samples' components in lanes, and sums of products of neighbours.
+ghost use Rattle.std.specs.Prelude.{◌≡◌, ℕ, ◌+◌, ◌*◌, ◌^◌, ◌≤◌, length, map, ℤ, pos, ◌+ℤ◌, ◌*ℤ◌, unsigned_abs};
 ghost use Rattle.fixed_complex.specs.Samples.{sample_at};
-ghost use Rattle.lane_kernels.specs.Lanes.{AreOf16Bits, eight, total_of};
+ghost use Rattle.lane_kernels.specs.Lanes.{AreOf16Bits, AreProducts, components_of, eight, four, total_of};
 ghost use Rattle.fixed_complex.specs.Numbers.{NumbersWithin, number_at};
 
 use fixed_complex::Sample;
 use std::simd::prelude::*;
 
-// The I components of eight samples, as wide as sums of products need.
+// The components of four samples in the order of memory.
 #[inline(always)]
-pub(crate) fn in_phase(a: &[Sample]) -> [i64; 8]
-    requires { length a.now ≡ 8 }
-    ensures value { result ≡ eight (λ n. (sample_at a.now n).i) }
-    ensures within { NumbersWithin (2 ^ 15) result }
-{
-    widened(i_components(a))
-}
-
-// The Q components of eight samples, as wide as sums of products need.
-#[inline(always)]
-pub(crate) fn quadrature(a: &[Sample]) -> [i64; 8]
-    requires { length a.now ≡ 8 }
-    ensures value { result ≡ eight (λ n. (sample_at a.now n).q) }
-    ensures within { NumbersWithin (2 ^ 15) result }
-{
-    widened(q_components(a))
-}
-
-// The I components of eight samples.
-#[inline(always)]
-pub(crate) fn i_components(a: &[Sample]) -> [i16; 8]
-    requires { length a.now ≡ 8 }
-    ensures value { result ≡ eight (λ n. (sample_at a.now n).i) }
+pub(crate) fn components(a: &[Sample]) -> [i16; 8]
+    requires { length a.now ≡ 4 }
+    ensures value { result ≡ components_of (sample_at a.now) }
     ensures of_16_bits { AreOf16Bits result }
 {
     [
-        a[0].i, a[1].i, a[2].i, a[3].i, a[4].i, a[5].i, a[6].i, a[7].i,
+        a[0].i, a[0].q, a[1].i, a[1].q, a[2].i, a[2].q, a[3].i, a[3].q,
     ]
 }
 
-// The Q components of eight samples.
+// The products of eight and eight numbers.
 #[inline(always)]
-pub(crate) fn q_components(a: &[Sample]) -> [i16; 8]
-    requires { length a.now ≡ 8 }
-    ensures value { result ≡ eight (λ n. (sample_at a.now n).q) }
-    ensures of_16_bits { AreOf16Bits result }
+pub(crate) fn products(x: [i16; 8], y: [i16; 8]) -> [i32; 8]
+    requires x { AreOf16Bits x }
+    requires y { AreOf16Bits y }
+    ensures { result ≡ eight (λ n. number_at x n *ℤ number_at y n) }
 {
-    [
-        a[0].q, a[1].q, a[2].q, a[3].q, a[4].q, a[5].q, a[6].q, a[7].q,
-    ]
+    let (x, y) = (
+        i16x8::from_array(x).cast::<i32>(),
+        i16x8::from_array(y).cast::<i32>(),
+    );
+    x.strict_mul(y).to_array()
 }
 
-// Eight numbers, wider.
+// The sums of neighbours, and 2^31 - 2 with each: from 2^16 - 2 to 2^32 - 2.
 #[inline(always)]
-pub(crate) fn widened(x: [i16; 8]) -> [i64; 8]
-    requires { AreOf16Bits x }
-    ensures value { result ≡ x }
-    ensures within { NumbersWithin (2 ^ 15) result }
+pub(crate) fn pair_sums(products: [i32; 8]) -> [u32; 4]
+    requires { AreProducts products }
+    ensures { map pos result
+        ≡ four (λ n. number_at products (2 * n) +ℤ number_at products (2 * n + 1) +ℤ pos 2147483646) }
 {
-    i16x8::from_array(x).cast::<i64>().to_array()
+    let products = i32x8::from_array(products);
+    let bias = i32x4::splat((1 << 30) - 1);
+    let even = products.swizzle([0, 2, 4, 6]).strict_add(bias);
+    let odd = products.swizzle([1, 3, 5, 7]).strict_add(bias);
+    even.cast::<u32>().strict_add(odd.cast::<u32>()).to_array()
 }
 
-// Eight sums, each with a product more.
+// Four sums, each with a number more.
 #[inline(always)]
-pub(crate) fn add_products(sums: [i64; 8], x: [i64; 8], y: [i64; 8]) -> [i64; 8]
+pub(crate) fn add_numbers(sums: [i64; 4], more: [u32; 4]) -> [i64; 4]
     requires sums { NumbersWithin (2 ^ 62) sums }
-    requires x { NumbersWithin (2 ^ 15) x }
-    requires y { NumbersWithin (2 ^ 15) y }
-    ensures { result ≡ eight (λ n. number_at sums n +ℤ number_at x n *ℤ number_at y n) }
+    requires more { NumbersWithin (2 ^ 33) (map pos more) }
+    ensures value { result ≡ four (λ n. number_at sums n +ℤ number_at (map pos more) n) }
+    ensures grown { (bound step : ℕ) → NumbersWithin bound sums → NumbersWithin step (map pos more)
+        → NumbersWithin (bound + step) result }
 {
-    let products = i64x8::from_array(x).strict_mul(i64x8::from_array(y));
-    i64x8::from_array(sums).strict_add(products).to_array()
+    let more = u32x4::from_array(more).cast::<i64>();
+    i64x4::from_array(sums).strict_add(more).to_array()
 }
 
-// Eight sums, each with a product less.
-#[inline(always)]
-pub(crate) fn subtract_products(sums: [i64; 8], x: [i64; 8], y: [i64; 8]) -> [i64; 8]
-    requires sums { NumbersWithin (2 ^ 62) sums }
-    requires x { NumbersWithin (2 ^ 15) x }
-    requires y { NumbersWithin (2 ^ 15) y }
-    ensures { result ≡ eight (λ n. number_at sums n -ℤ number_at x n *ℤ number_at y n) }
-{
-    let products = i64x8::from_array(x).strict_mul(i64x8::from_array(y));
-    i64x8::from_array(sums).strict_sub(products).to_array()
-}
-
-// The sum of eight lanes.
-pub(crate) fn total(sums: &[i64; 8]) -> i64
-    requires { NumbersWithin (2 ^ 52) sums.now }
+// The sum of four lanes.
+pub(crate) fn total(sums: &[i64; 4]) -> i64
+    requires { NumbersWithin (2 ^ 55) sums.now }
     ensures total { result ≡ total_of sums.now }
-    ensures within { unsigned_abs result ≤ 2 ^ 55 }
+    ensures within { (bound : ℕ) → NumbersWithin bound sums.now → unsigned_abs result ≤ bound * 4 }
 {
-    let mut total = 0;
-    for sum in sums {
-        total += *sum;
-    }
-    total
+    sums[0] + sums[1] + sums[2] + sums[3]
 }

@@ -4,7 +4,7 @@ ghost use Rattle.lane_kernels.specs.Kernels.{held, held_sum, held_sums};
 ghost use Rattle.lane_kernels.specs.Lanes.{AreOf16Bits, HoldsSums, eight};
 ghost use Rattle.fixed_complex.specs.Numbers.{number_at};
 
-use crate::lanes::{i_components, q_components};
+use crate::lanes::components;
 use fixed_complex::Sample;
 use std::simd::prelude::*;
 
@@ -17,7 +17,8 @@ pub fn add_saturating(a: &mut [Sample], b: &[Sample])
 {
     let whole = a.len() / 8;
     for k in 0..whole {
-        add_eight(a, b, 8 * k);
+        add_four(a, b, 8 * k);
+        add_four(a, b, 8 * k + 4);
     }
     add_rest(a, b, 8 * whole);
 }
@@ -44,18 +45,20 @@ fn held_sum(a: Sample, b: Sample) -> Sample
     }
 }
 
-// Adds eight samples from a place on.
+// Adds four samples from a place on.
 #[inline(always)]
-fn add_eight(a: &mut [Sample], b: &[Sample], at: usize)
-    requires within { at + 8 ≤ length a.old }
+fn add_four(a: &mut [Sample], b: &[Sample], at: usize)
+    requires within { at + 4 ≤ length a.old }
     requires long { length a.old ≡ length b.now }
-    ensures sums { HoldsSums at (at + 8) a.old b.now a.new }
+    ensures sums { HoldsSums at (at + 4) a.old b.now a.new }
     ensures len { length a.new ≡ length a.old }
 {
-    let i = add_lanes(i_components(&a[at..at + 8]), i_components(&b[at..at + 8]));
-    let q = add_lanes(q_components(&a[at..at + 8]), q_components(&b[at..at + 8]));
-    for n in 0..8 {
-        a[at + n] = Sample { i: i[n], q: q[n] };
+    let sums = add_lanes(components(&a[at..at + 4]), components(&b[at..at + 4]));
+    for n in 0..4 {
+        a[at + n] = Sample {
+            i: sums[2 * n],
+            q: sums[2 * n + 1],
+        };
     }
 }
 

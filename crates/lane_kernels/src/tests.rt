@@ -22,6 +22,23 @@ fn samples(seed: u64) -> [Sample; 67] {
     samples
 }
 
+// Samples at the ends of the range of 16 bits.
+fn extreme_samples() -> [Sample; 67] {
+    let mut samples = [Sample {
+        i: -32768,
+        q: -32768,
+    }; 67];
+    for n in 0..67 {
+        if n % 3 == 1 {
+            samples[n] = Sample {
+                i: 32767,
+                q: -32768,
+            };
+        }
+    }
+    samples
+}
+
 // Samples of which only the one at a place is loud, in Q.
 fn quiet_but_at(place: usize) -> [Sample; 67] {
     let mut samples = [Sample { i: 256, q: -256 }; 67];
@@ -71,6 +88,22 @@ fn dot_and_energy_of_each_length(rt: HostRuntime) {
     let (a, b) = (samples(1), samples(2));
     for n in 0..68 {
         assert!(rt; dot(&a[..n], &b[..n]) == plain_dot(&a[..n], &b[..n]));
+        assert!(rt; energy(&a[..n]) == plain_energy(&a[..n]));
+    }
+}
+
+#[test]
+fn dot_and_energy_of_extreme_samples(rt: HostRuntime) {
+    let (a, b) = (
+        extreme_samples(),
+        [Sample {
+            i: -32768,
+            q: -32768,
+        }; 67],
+    );
+    for n in 0..68 {
+        assert!(rt; dot(&a[..n], &b[..n]) == plain_dot(&a[..n], &b[..n]));
+        assert!(rt; dot(&b[..n], &a[..n]) == plain_dot(&b[..n], &a[..n]));
         assert!(rt; energy(&a[..n]) == plain_energy(&a[..n]));
     }
 }

@@ -7,7 +7,7 @@ use Rattle.lane_kernels.proofs.powers.lane_powers.Given as goal
 
 abbrev pub invariant-loop-k : goal.invariant-loop-k
 invariant-loop-k l = record {
-  long : length l.sums ≡ 8;
-  so_far : total_of l.sums ≡ total_below (8 * l.k) (λ n. power_of (sample_at l.a n));
+  long : length l.sums ≡ 4;
+  so_far : total_of l.sums ≡ total_below (4 * l.k) (λ n. power_of (sample_at l.a n));
   within : NumbersWithin (2 ^ 31 * l.k) l.sums;
 }

@@ -5,9 +5,10 @@ use Rattle.lane_kernels.proofs.saturation.add_saturating.Goals as goal
 pub loop-k-preserved : goal.loop-k-preserved
 loop-k-preserved c =
     let i = 8 * c.loop-k.k in
-    let more = sums-join 0 i (i + 8) c.args.a.now c.args.b.now c.loop-k.a c.add_eight.new.a (omega arith) (omega arith) c.loop-k.invariant.sums c.add_eight.ensures.sums in
-    let e : 8 * (c.loop-k.k + 1) ≡ i + 8 = omega arith in
-    record { len = c.add_eight.ensures.len ∙ c.loop-k.invariant.len; sums = rw e more }
+    let first = sums-join 0 i (i + 4) c.args.a.now c.args.b.now c.loop-k.a c.add_four.new.a (omega arith) (omega arith) c.loop-k.invariant.sums c.add_four.ensures.sums in
+    let more = sums-join 0 (i + 4) (i + 4 + 4) c.args.a.now c.args.b.now c.add_four.new.a c.add_four-in-loop-k.new.a (omega arith) (omega arith) first c.add_four-in-loop-k.ensures.sums in
+    let e : 8 * (c.loop-k.k + 1) ≡ i + 4 + 4 = omega arith in
+    record { len = c.add_four-in-loop-k.ensures.len ∙ c.add_four.ensures.len ∙ c.loop-k.invariant.len; sums = rw e more }
 
 pub returns : goal.returns
 returns c =

@@ -1,0 +1,13 @@
+use Rattle.std.proofs.Common.{sym, subst, ◌∙◌, arith}
+use Rattle.std.specs.Int.{int_min}
+use Rattle.lane_kernels.specs.Lanes.{AreOf16Bits}
+use Rattle.lane_kernels.proofs.Extremes.{eight_by, lesser-are, min-fits, zip2-of_16_bits}
+use Rattle.lane_kernels.proofs.loudness.lesser.Goals as goal
+
+pub returns : goal.returns
+returns c =
+    let are = lesser-are c.args.x c.args.y c.requires.x c.requires.y in
+    record {
+      value = are ∙ eight_by int_min c.args.x c.args.y (omega arith) (omega arith);
+      of_16_bits = subst AreOf16Bits (sym are) (zip2-of_16_bits int_min min-fits c.args.x c.args.y c.requires.x c.requires.y);
+    }
