@@ -1,11 +1,11 @@
 -- The outcome of a capture of frames in noise.
-use Rattle.std.proofs.Common.{◌≡◌, ◌<◌, ℕ, List, [], ◌∷◌, length, map, None, refl, ap, arith}
+use Rattle.std.proofs.Common.{◌<◌, ℕ, List, [], ◌∷◌, length, map, None, refl, arith}
 use Rattle.capture_files.specs.Captures.{samples_in}
 use Rattle.frame_findings.specs.Walk.{AreFindings}
 use Rattle.frame_lists.specs.Near.{SentFrame}
 use Rattle.frames_in_noise.specs.Laws.{NoiseIsWithstood, heard_of}
 use Rattle.command_words.specs.declared.Request.TheVariants.{Receive}
-use Rattle.command_answers.specs.InNoise.{IsCaptureInNoise, lines_of}
+use Rattle.command_answers.specs.InNoise.{lines_of}
 use Rattle.command_answers.specs.InOrder.{Writes, passed}
 use Rattle.command_answers.specs.Laws.{CaptureInNoiseGivesItsFrames}
 use Rattle.command_answers.specs.Outcome.{of_request}

@@ -11,6 +11,7 @@ use Rattle.frame_findings.specs.Laws.{OneFindings, OneReports, SomeFindings, Som
 use Rattle.command_answers.specs.Receiving.{HasReceived, HasReports, outcome_of}
 use Rattle.frame_fields.specs.Frames.{sent_bytes}
 use Rattle.frame_fields.specs.Laws.{OneField, SomeField}
+use Rattle.soft_trellis.specs.Laws.{OneSoftField, SomeSoftField}
 use Rattle.report_lines.proofs.ByKind.{of_words as by_status}
 use Rattle.report_lines.specs.declared.Refusal.{Refusal}
 use Rattle.report_lines.specs.declared.Refusal.TheVariants.{NoMemory}
@@ -18,7 +19,7 @@ use Rattle.report_lines.specs.Refusals.{IsDecided, answering, asking, status_of,
 use Rattle.std.specs.Result.{IfErr, IfOk, result_err}
 use Rattle.command_words.proofs.Asked.{asked_or_refused, nothing_asked, one_refusal, one_request}
 use Rattle.command_words.specs.declared.Request.{Request}
-use Rattle.command_words.specs.declared.Request.TheVariants.{Bits, Decode, Send, Receive, Noise, Inspect, Show}
+use Rattle.command_words.specs.declared.Request.TheVariants.{Bits, Decode, DecodeSoft, Send, Receive, Noise, Inspect, Show}
 use Rattle.command_words.specs.declared.Stage.TheVariants.{Kept}
 use Rattle.command_words.specs.Asking.{AreRefusedFor, AskFor, command_of}
 use Rattle.frame_stages.specs.Stages.{stage_text_of}
@@ -28,7 +29,7 @@ use Rattle.command_answers.specs.declared.reading.Reading.{Reading}
 use Rattle.command_answers.specs.Inputs.{IsAccepted, IsInput, OfInput, Reads, RefusesInput, reads}
 use Rattle.command_answers.specs.Laws.{OneOutcome, SomeOutcome}
 use Rattle.command_answers.specs.Outcome.{AnswerOf, AreRefused, RequestOutcome, HasOutcome, IsOutcome, of_request, of_words}
-use Rattle.command_answers.proofs.OfText.{decode_all, decode_one, decode_some}
+use Rattle.command_answers.proofs.OfText.{decode_all, decode_one, decode_some, soft_all, soft_one, soft_some}
 use Rattle.command_answers.proofs.InOrder.{AllAre, AtLeastOne, AtMostOne, answers_all, answers_one, with_some}
 use Rattle.command_answers.proofs.Inputs.{accepted_outcome, input_all, input_one, input_some, refused_outcome}
 
@@ -52,23 +53,39 @@ received_one one capture a b (heard, cut, found, is) (heard', cut', found', is')
     let same = one capture heard heard' cut cut' found found' in
     is ∙ ap (λ frames. outcome_of (received_of frames cut)) same.0 ∙ ap (λ end. outcome_of (received_of heard' end)) same.1 ∙ sym is'
 
-answer_some : SomeField → SomeReports → SomeFindings → (request : Request) (read : List ℕ) → AtLeastOne (AnswerOf request read)
-answer_some some reports findings (Bits rate seed) read = (Writes (stage_text_of Kept rate seed read), refl)
-answer_some some reports findings (Decode rate octets) read = decode_some some rate octets read
-answer_some some reports findings (Send rate seed) read = (Writes (sent_bytes rate seed read), refl)
-answer_some some reports findings (Noise items) read = (Writes (noisy_bytes items read), refl)
-answer_some some reports findings Receive read = received_some findings (samples_in read)
-answer_some some reports findings Inspect read = reports_some reports (samples_in read)
-answer_some some reports findings (Show stage rate seed) read = (Writes (stage_text_of stage rate seed read), refl)
+-- what is found of an input is there, by the laws of the crates below
+pub record SomeFound : Type 0 where
+  pub field : SomeField
+  pub soft : SomeSoftField
+  pub reports : SomeReports
+  pub findings : SomeFindings
 
-answer_one : OneField → OneReports → OneFindings → (request : Request) (read : List ℕ) → AtMostOne (AnswerOf request read)
-answer_one one reports findings (Bits rate seed) read a b is is' = is ∙ sym is'
-answer_one one reports findings (Decode rate octets) read a b has has' = decode_one one rate octets read a b has has'
-answer_one one reports findings (Send rate seed) read a b is is' = is ∙ sym is'
-answer_one one reports findings (Noise items) read a b is is' = is ∙ sym is'
-answer_one one reports findings Receive read a b has has' = received_one findings (samples_in read) a b has has'
-answer_one one reports findings Inspect read a b has has' = reports_one reports (samples_in read) a b has has'
-answer_one one reports findings (Show stage rate seed) read a b is is' = is ∙ sym is'
+-- .. and is one
+pub record OneFound : Type 0 where
+  pub field : OneField
+  pub soft : OneSoftField
+  pub reports : OneReports
+  pub findings : OneFindings
+
+answer_some : SomeFound → (request : Request) (read : List ℕ) → AtLeastOne (AnswerOf request read)
+answer_some some (Bits rate seed) read = (Writes (stage_text_of Kept rate seed read), refl)
+answer_some some (Decode rate octets) read = decode_some some.field rate octets read
+answer_some some (DecodeSoft rate octets) read = soft_some some.soft rate octets read
+answer_some some (Send rate seed) read = (Writes (sent_bytes rate seed read), refl)
+answer_some some (Noise items) read = (Writes (noisy_bytes items read), refl)
+answer_some some Receive read = received_some some.findings (samples_in read)
+answer_some some Inspect read = reports_some some.reports (samples_in read)
+answer_some some (Show stage rate seed) read = (Writes (stage_text_of stage rate seed read), refl)
+
+answer_one : OneFound → (request : Request) (read : List ℕ) → AtMostOne (AnswerOf request read)
+answer_one one (Bits rate seed) read a b is is' = is ∙ sym is'
+answer_one one (Decode rate octets) read a b has has' = decode_one one.field rate octets read a b has has'
+answer_one one (DecodeSoft rate octets) read a b has has' = soft_one one.soft rate octets read a b has has'
+answer_one one (Send rate seed) read a b is is' = is ∙ sym is'
+answer_one one (Noise items) read a b is is' = is ∙ sym is'
+answer_one one Receive read a b has has' = received_one one.findings (samples_in read) a b has has'
+answer_one one Inspect read a b has has' = reports_one one.reports (samples_in read) a b has has'
+answer_one one (Show stage rate seed) read a b is is' = is ∙ sym is'
 
 -- an outcome isn't a refusal of the words
 abbrev IsNoWord : Outcome → Type 0
@@ -83,6 +100,7 @@ received_is_no_word (first ∷ heard) cut = tt
 answer_is_no_word : (request : Request) (read : List ℕ) → AllAre IsNoWord (AnswerOf request read)
 answer_is_no_word (Bits rate seed) read outcome is = rw is tt
 answer_is_no_word (Decode rate octets) read outcome has = decode_all IsNoWord rate octets read (λ refusal at asks. cc) (λ answer. tt) outcome has
+answer_is_no_word (DecodeSoft rate octets) read outcome has = soft_all IsNoWord rate octets read (λ refusal at asks. cc) (λ answer. tt) outcome has
 answer_is_no_word (Send rate seed) read outcome is = rw is tt
 answer_is_no_word (Noise items) read outcome is = rw is tt
 answer_is_no_word Receive read outcome (heard, cut, found, is) = rw is (received_is_no_word heard cut)
@@ -90,31 +108,31 @@ answer_is_no_word Inspect read outcome has = answers_all IsNoWord (HasReports (s
 answer_is_no_word (Show stage rate seed) read outcome is = rw is tt
 
 -- the same with the refusals of the input
-request_some : SomeField → SomeReports → SomeFindings → (request : Request) (bytes : List ℕ) → AtLeastOne (RequestOutcome request bytes)
-request_some some reports findings request bytes = input_some (reads (command_of request)) (AnswerOf request) bytes (answer_some some reports findings request)
+request_some : SomeFound → (request : Request) (bytes : List ℕ) → AtLeastOne (RequestOutcome request bytes)
+request_some some request bytes = input_some (reads (command_of request)) (AnswerOf request) bytes (answer_some some request)
 
-request_one : OneField → OneReports → OneFindings → (request : Request) (bytes : List ℕ) → AtMostOne (RequestOutcome request bytes)
-request_one one reports findings request bytes = input_one (reads (command_of request)) (AnswerOf request) bytes (answer_one one reports findings request)
+request_one : OneFound → (request : Request) (bytes : List ℕ) → AtMostOne (RequestOutcome request bytes)
+request_one one request bytes = input_one (reads (command_of request)) (AnswerOf request) bytes (answer_one one request)
 
 request_is_no_word : (request : Request) (bytes : List ℕ) → AllAre IsNoWord (RequestOutcome request bytes)
 request_is_no_word request bytes = input_all IsNoWord (reads (command_of request)) (AnswerOf request) bytes (λ refusal at asks. cc) (answer_is_no_word request)
 
 -- words and bytes have an outcome
-pub some_outcome : SomeField → SomeReports → SomeFindings → SomeOutcome
-some_outcome some reports findings words bytes =
+pub some_outcome : SomeFound → SomeOutcome
+some_outcome some words bytes =
     elim (asked_or_refused words) [
-      | inl asked ↦ let of_it = request_some some reports findings asked.0 bytes in (of_it.0, of_request asked.0 asked.1 of_it.1)
+      | inl asked ↦ let of_it = request_some some asked.0 bytes in (of_it.0, of_request asked.0 asked.1 of_it.1)
       | inr why ↦ (Refuses why.0, of_words why.0 why.1 refl)
     ]
 
 -- .. and no other
-pub only_outcome : OneField → OneReports → OneFindings → OneOutcome
-only_outcome one reports findings words bytes a b (of_request request asks has) (of_request other asks' has') =
+pub only_outcome : OneFound → OneOutcome
+only_outcome one words bytes a b (of_request request asks has) (of_request other asks' has') =
     let same = one_request words other request asks' asks in
-    request_one one reports findings request bytes a b has (let P : Request → Type 0 = λ asked. RequestOutcome asked bytes b in subst P same has')
-only_outcome one reports findings words bytes a b (of_request request asks has) (of_words refusal why is) = absurd (nothing_asked words refusal why request asks)
-only_outcome one reports findings words bytes a b (of_words refusal why is) (of_request request asks has) = absurd (nothing_asked words refusal why request asks)
-only_outcome one reports findings words bytes a b (of_words refusal why is) (of_words refusal' why' is') = is ∙ ap Refuses (one_refusal words refusal refusal' why why') ∙ sym is'
+    request_one one request bytes a b has (let P : Request → Type 0 = λ asked. RequestOutcome asked bytes b in subst P same has')
+only_outcome one words bytes a b (of_request request asks has) (of_words refusal why is) = absurd (nothing_asked words refusal why request asks)
+only_outcome one words bytes a b (of_words refusal why is) (of_request request asks has) = absurd (nothing_asked words refusal why request asks)
+only_outcome one words bytes a b (of_words refusal why is) (of_words refusal' why' is') = is ∙ ap Refuses (one_refusal words refusal refusal' why why') ∙ sym is'
 
 -- words that are refused whatever the input holds are refused for this
 pub words_are_refused : (words : List (List ℕ)) → AreRefused words → (refusal : Refusal) × AreRefusedFor words refusal

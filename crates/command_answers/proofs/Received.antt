@@ -1,19 +1,11 @@
 -- What `receive` comes to.
-use Rattle.std.proofs.Common.{◌≡◌, ◌⊎◌, inl, inr, ℕ, ◌+◌, ◌*◌, ◌/◌, ◌≤◌, List, length, Option, Some, None, Result, Ok, Err, Vec, Global, refl, ap, ◌∙◌, arith}
+use Rattle.std.proofs.Common.{ℕ, List, Option, Some, None, Result, Ok, Err, refl, ap, arith}
 use Rattle.std.specs.Option.{IfSome}
-use Rattle.std.specs.Result.{IfErr, IfOk, IsErrOf, OnOk, result_err}
 use Rattle.capture_hearing.specs.Received.{IsReceived, long, torn, whole}
-use Rattle.capture_hearing.specs.Sources.{IsOfReceiving}
-use Rattle.modem_ports.specs.Counts.{Rose}
-use Rattle.modem_ports.specs.Limits.{most_input}
-use Rattle.modem_ports.specs.Told.{GivesAtMost, GivesExactly, IsAtEnd}
 use Rattle.report_lines.specs.declared.Refusal.{Refusal}
-use Rattle.report_lines.specs.declared.Refusal.TheVariants.{LongCapture, LongPsdu, ReadFault}
-use Rattle.report_lines.specs.Refusals.{IsDecided, answering, status_of, step_of, writing}
+use Rattle.report_lines.specs.Refusals.{IsDecided, status_of}
 use Rattle.command_words.specs.declared.Request.TheVariants.{Receive}
-use Rattle.command_answers.specs.declared.reading.Reading.TheVariants.{Capture}
-use Rattle.command_answers.specs.InOrder.{Outcome, Refuses, Writes, passed, refused}
-use Rattle.command_answers.specs.Inputs.{Reads}
+use Rattle.command_answers.specs.InOrder.{Refuses, Writes, passed, refused}
 use Rattle.command_answers.specs.Outcome.{RequestOutcome}
 use Rattle.command_answers.specs.Receiving.{outcome_of}
 

@@ -1,7 +1,7 @@
 -- What holds of outcomes, for every input: what the laws ensure (own).
 use Rattle.std.specs.Prelude.{◌≡◌, ℕ, List}
 use Rattle.frame_lists.specs.Near.{SentFrame}
-use Rattle.command_answers.specs.Flips.{IsFlippedText}
+use Rattle.command_answers.specs.Flips.{IsCheapText, IsFlippedText}
 use Rattle.command_answers.specs.InNoise.{IsCaptureInNoise, lines_of}
 use Rattle.command_answers.specs.InOrder.{Outcome, Writes}
 use Rattle.command_answers.specs.Outcome.{HasOutcome}
@@ -29,3 +29,10 @@ abbrev pub CaptureInNoiseGivesItsFrames : Type 0
 CaptureInNoiseGivesItsFrames =
     (words : List (List ℕ)) (bytes : List ℕ) (frames : List SentFrame)
     → IsCaptureInNoise words bytes frames → HasOutcome words bytes (Writes (lines_of frames))
+
+-- the outcome of a text of costs against which the kept code of a field costs little: that field's PSDU
+-- is written
+abbrev pub CheapTextGivesItsPsdu : Type 0
+CheapTextGivesItsPsdu =
+    (words : List (List ℕ)) (bytes psdu : List ℕ)
+    → IsCheapText words bytes psdu → HasOutcome words bytes (Writes psdu)

@@ -14,7 +14,7 @@ ghost use Rattle.modem_ports.specs.Told.{Takes, TakesPrefix};
 ghost use Rattle.noise_script.specs.Effects.{after_items};
 ghost use Rattle.report_lines.specs.Refusals.{answering, step_of};
 
-use crate::decoding::decoded;
+use crate::decoding::{decoded, soft_decoded};
 use capture_files::{samples_of, write_samples};
 use command_words::{Request, Stage};
 use finding_lines::reports_text;
@@ -56,6 +56,7 @@ pub(crate) fn answer_of(
             Ok(Answer::Bytes(stage_text(alloc, Stage::Kept, rate, seed, input)?))
         }
         Request::Decode { rate, length } => decoded(alloc, rate, length, input, steps),
+        Request::DecodeSoft { rate, length } => soft_decoded(alloc, rate, length, input, steps),
         Request::Send { rate, seed } => {
             Ok(Answer::Samples(frame_samples(alloc, rate, seed, input)?))
         }

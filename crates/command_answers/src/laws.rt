@@ -1,9 +1,10 @@
 //! What holds of outcomes, for every input. Its functions do nothing: what each ensures is the law.
-ghost use Rattle.command_answers.specs.Laws.{CaptureInNoiseGivesItsFrames, FlippedTextGivesItsPsdu, OneOutcome, SomeOutcome};
+ghost use Rattle.command_answers.specs.Laws.{CaptureInNoiseGivesItsFrames, CheapTextGivesItsPsdu, FlippedTextGivesItsPsdu, OneOutcome, SomeOutcome};
 
 use frame_fields::laws::{few_flips, one_field};
 use frame_findings::laws::{one_reception, one_report};
 use frames_in_noise::laws::noise_is_withstood;
+use soft_trellis::laws::{little_cost, one_soft_field};
 
 /// All words and all bytes have exactly one outcome (own).
 pub fn outcome_is_one()
@@ -13,6 +14,7 @@ pub fn outcome_is_one()
     one_field();
     one_report();
     one_reception();
+    one_soft_field();
 }
 
 /// What `decode` is asked to write of a text that is the kept code of a field with few flips: that
@@ -21,6 +23,14 @@ pub fn flipped_text_gives_its_psdu()
     ensures { FlippedTextGivesItsPsdu }
 {
     few_flips();
+}
+
+/// What `decode-soft` is asked to write of a text of costs against which the kept code of a field costs
+/// little: that field's PSDU (own).
+pub fn cheap_text_gives_its_psdu()
+    ensures { CheapTextGivesItsPsdu }
+{
+    little_cost();
 }
 
 /// What `receive` is asked to write of a capture that is near a list of frames, each within the noise

@@ -33,7 +33,7 @@ impl Reading {
     {
         match request {
             Request::Bits { .. } | Request::Send { .. } | Request::Show { .. } => Reading::Psdu,
-            Request::Decode { .. } => Reading::Bytes,
+            Request::Decode { .. } | Request::DecodeSoft { .. } => Reading::Bytes,
             Request::Receive | Request::Noise { .. } | Request::Inspect => Reading::Capture,
         }
     }

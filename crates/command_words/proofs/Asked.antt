@@ -15,7 +15,7 @@ use Rattle.report_lines.specs.Refusals.{asking, step_of}
 use Rattle.command_words.specs.declared.Command.{Command}
 use Rattle.command_words.specs.declared.Command.TheVariants as command
 use Rattle.command_words.specs.declared.Request.{Request}
-use Rattle.command_words.specs.declared.Request.TheVariants.{Bits, Decode, Send, Receive, Noise, Inspect, Show}
+use Rattle.command_words.specs.declared.Request.TheVariants.{Bits, Decode, DecodeSoft, Send, Receive, Noise, Inspect, Show}
 use Rattle.command_words.specs.Asking.{AreRefusedFor, AskFor, AskForNothing, CarryText, command_of, for_script, for_words}
 use Rattle.command_words.specs.Grammar.{Say, noise_words}
 use Rattle.command_words.proofs.Reading.{one_command, said_or_not, same_text, text_in}
@@ -40,6 +40,7 @@ items_back items text says = back (decided_script text)
 request_in : List (List ℕ) → Command → Request
 request_in words (command.Bits rate seed) = Bits rate seed
 request_in words (command.Decode rate octets) = Decode rate octets
+request_in words (command.DecodeSoft rate octets) = DecodeSoft rate octets
 request_in words (command.Send rate seed) = Send rate seed
 request_in words command.Noise = Noise (items_of (text_in words) (decided_script (text_in words)))
 request_in words command.Receive = Receive
@@ -50,6 +51,7 @@ asked_is_read : (words : List (List ℕ)) (request : Request) → CarryText word
 unfolding request_in
 asked_is_read words (Bits rate seed) carried = refl
 asked_is_read words (Decode rate octets) carried = refl
+asked_is_read words (DecodeSoft rate octets) carried = refl
 asked_is_read words (Send rate seed) carried = refl
 asked_is_read words (Noise items) (text, are, says) = rw (same_text words text are) (ap (λ list. Noise list) (items_back items text says))
 asked_is_read words Receive carried = refl
@@ -65,6 +67,7 @@ one_request words a b asks asks' =
 asked_where_said : (words : List (List ℕ)) (command : Command) → Say words command → ((request : Request) × AskFor words request) ⊎ ((refused : Refusal) × AreRefusedFor words refused)
 asked_where_said words (command.Bits rate seed) says = inl (Bits rate seed, record { said = says; carried = tt })
 asked_where_said words (command.Decode rate octets) says = inl (Decode rate octets, record { said = says; carried = tt })
+asked_where_said words (command.DecodeSoft rate octets) says = inl (DecodeSoft rate octets, record { said = says; carried = tt })
 asked_where_said words (command.Send rate seed) says = inl (Send rate seed, record { said = says; carried = tt })
 asked_where_said words command.Noise says =
     elim (decided_script says.are.0) [
@@ -87,6 +90,7 @@ asked_or_refused words =
 script_asked : (words : List (List ℕ)) (request : Request) (text : List ℕ) → command_of request ≡ command.Noise → CarryText words request → words ≡ noise_words text → IsScript 16 text
 script_asked words (Bits rate seed) text is carried are = cc
 script_asked words (Decode rate octets) text is carried are = cc
+script_asked words (DecodeSoft rate octets) text is carried are = cc
 script_asked words (Send rate seed) text is carried are = cc
 script_asked words (Noise items) text is (text', are', says) are = (items, subst (λ t. SaysScript 16 items t) (sym (same_text words text' are') ∙ same_text words text are) says)
 script_asked words Receive text is carried are = cc

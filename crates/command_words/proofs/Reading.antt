@@ -10,7 +10,7 @@ use Rattle.rate_table.proofs.ByRate.{by_rate, rate_of_mbps, rate_of_mbps-of}
 use Rattle.rate_table.specs.declared.Rate.{Rate}
 use Rattle.rate_table.specs.Table.{row_of}
 use Rattle.command_words.specs.declared.Command.{Command}
-use Rattle.command_words.specs.declared.Command.TheVariants.{Bits, Decode, Send, Receive, Noise, Inspect, Show}
+use Rattle.command_words.specs.declared.Command.TheVariants.{Bits, Decode, DecodeSoft, Send, Receive, Noise, Inspect, Show}
 use Rattle.command_words.specs.declared.Stage.{Stage}
 use Rattle.command_words.specs.declared.Stage.TheVariants.{Scrambled, Coded, Kept, Interleaved, Points, Header, Samples}
 use Rattle.command_words.specs.Grammar.{AreWordsOf, IsFrom, IsInRange, Say, SayNothing, noise_words, rate_word, stage_word}
@@ -66,7 +66,8 @@ command_in (name ∷ text ∷ []) = cond (bytes_eq name (codes "noise")) (Some N
 command_in (name ∷ a ∷ b ∷ []) =
     cond (bytes_eq name (codes "bits")) (Some (Bits (rate_in a) (number_in b)))
     (cond (bytes_eq name (codes "decode")) (Some (Decode (rate_in a) (number_in b)))
-    (cond (bytes_eq name (codes "send")) (Some (Send (rate_in a) (number_in b))) None))
+    (cond (bytes_eq name (codes "decode-soft")) (Some (DecodeSoft (rate_in a) (number_in b)))
+    (cond (bytes_eq name (codes "send")) (Some (Send (rate_in a) (number_in b))) None)))
 command_in (name ∷ a ∷ b ∷ c ∷ []) = cond (bytes_eq name (codes "show")) (Some (Show (stage_in a) (rate_in b) (number_in c))) None
 command_in words = None
 
@@ -74,6 +75,7 @@ reads_back : (words : List (List ℕ)) (command : Command) → IsInRange command
 unfolding command_in
 reads_back words (Bits rate seed) range are = rw (are, rate_back rate, number_back seed (omega (arith, range.1))) refl
 reads_back words (Decode rate octets) range are = rw (are, rate_back rate, number_back octets (omega (arith, range.1))) refl
+reads_back words (DecodeSoft rate octets) range are = rw (are, rate_back rate, number_back octets (omega (arith, range.1))) refl
 reads_back words (Send rate seed) range are = rw (are, rate_back rate, number_back seed (omega (arith, range.1))) refl
 reads_back words Noise range (text, are) = rw are refl
 reads_back words Receive range are = rw are refl
@@ -100,6 +102,7 @@ from_decided least most number =
 range_decided : (command : Command) → Decided (IsInRange command)
 range_decided (Bits rate seed) = from_decided 1 127 seed
 range_decided (Decode rate octets) = from_decided 1 4095 octets
+range_decided (DecodeSoft rate octets) = from_decided 1 4095 octets
 range_decided (Send rate seed) = from_decided 1 127 seed
 range_decided Noise = inl tt
 range_decided Receive = inl tt
@@ -135,6 +138,7 @@ noise_decided words =
 words_decided : (words : List (List ℕ)) (command : Command) → Decided (AreWordsOf command words)
 words_decided words (Bits rate seed) = same_words words _
 words_decided words (Decode rate octets) = same_words words _
+words_decided words (DecodeSoft rate octets) = same_words words _
 words_decided words (Send rate seed) = same_words words _
 words_decided words Noise = noise_decided words
 words_decided words Receive = same_words words _

@@ -7,13 +7,14 @@ use Rattle.report_lines.specs.declared.Refusal.TheVariants.{BadScript, Words}
 use Rattle.command_words.specs.declared.Command.{Command}
 use Rattle.command_words.specs.declared.Command.TheVariants as command
 use Rattle.command_words.specs.declared.Request.{Request}
-use Rattle.command_words.specs.declared.Request.TheVariants.{Bits, Decode, Send, Receive, Noise, Inspect, Show}
+use Rattle.command_words.specs.declared.Request.TheVariants.{Bits, Decode, DecodeSoft, Send, Receive, Noise, Inspect, Show}
 use Rattle.command_words.specs.Grammar.{Say, SayNothing, noise_words}
 
 -- the command of a request
 abbrev pub command_of : Request → Command
 command_of (Bits rate seed) = command.Bits rate seed
 command_of (Decode rate octets) = command.Decode rate octets
+command_of (DecodeSoft rate octets) = command.DecodeSoft rate octets
 command_of (Send rate seed) = command.Send rate seed
 command_of (Noise items) = command.Noise
 command_of Receive = command.Receive

@@ -9,7 +9,7 @@ use Rattle.ofdm_scrambler.specs.Sequence.{IsSeed}
 use Rattle.command_words.specs.declared.Stage.{Stage}
 use Rattle.command_words.specs.declared.Stage.TheVariants.{Scrambled, Coded, Kept, Interleaved, Points, Header, Samples}
 use Rattle.command_words.specs.declared.Command.{Command}
-use Rattle.command_words.specs.declared.Command.TheVariants.{Bits, Decode, Send, Receive, Noise, Inspect, Show}
+use Rattle.command_words.specs.declared.Command.TheVariants.{Bits, Decode, DecodeSoft, Send, Receive, Noise, Inspect, Show}
 
 -- the texts of the words of the command line
 abbrev pub texts_of : Vec (String Global) Global → List (List ℕ)
@@ -38,6 +38,8 @@ abbrev pub AreWordsOf : Command → List (List ℕ) → Type 0
 AreWordsOf (Bits rate seed) words = words ≡ codes "bits" ∷ rate_word rate ∷ decimal seed ∷ []
 AreWordsOf (Decode rate octets) words =
     words ≡ codes "decode" ∷ rate_word rate ∷ decimal octets ∷ []
+AreWordsOf (DecodeSoft rate octets) words =
+    words ≡ codes "decode-soft" ∷ rate_word rate ∷ decimal octets ∷ []
 AreWordsOf (Send rate seed) words = words ≡ codes "send" ∷ rate_word rate ∷ decimal seed ∷ []
 AreWordsOf Noise words = (text : List ℕ) × (words ≡ noise_words text)
 AreWordsOf Receive words = words ≡ codes "receive" ∷ []
@@ -49,6 +51,7 @@ AreWordsOf (Show stage rate seed) words =
 abbrev pub IsInRange : Command → Type 0
 IsInRange (Bits rate seed) = IsSeed seed
 IsInRange (Decode rate octets) = IsLength octets
+IsInRange (DecodeSoft rate octets) = IsLength octets
 IsInRange (Send rate seed) = IsSeed seed
 IsInRange Noise = Unit {0}
 IsInRange Receive = Unit {0}

@@ -23,6 +23,7 @@ pub fn read_request(words: &Vec<String>) -> Result<Request, Refusal>
     match command {
         Command::Bits { rate, seed } => Ok(Request::Bits { rate, seed }),
         Command::Decode { rate, length } => Ok(Request::Decode { rate, length }),
+        Command::DecodeSoft { rate, length } => Ok(Request::DecodeSoft { rate, length }),
         Command::Send { rate, seed } => Ok(Request::Send { rate, seed }),
         Command::Noise => read_noise(words[1].as_str()),
         Command::Receive => Ok(Request::Receive),

@@ -45,6 +45,11 @@ pub enum Command {
         rate: Rate,
         length: u16,
     },
+    /// `decode-soft RATE LENGTH`
+    DecodeSoft {
+        rate: Rate,
+        length: u16,
+    },
     /// `send RATE SEED`
     Send {
         rate: Rate,
@@ -74,6 +79,11 @@ pub enum Request {
     },
     /// The PSDU of the field that is nearest to a text of bits.
     Decode {
+        rate: Rate,
+        length: u16,
+    },
+    /// The PSDU of the soft field of a text of costs.
+    DecodeSoft {
         rate: Rate,
         length: u16,
     },

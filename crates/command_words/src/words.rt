@@ -72,6 +72,10 @@ fn read_three(name: &str, a: &str, b: &str) -> Option<Command>
             rate: read_rate(a)?,
             length: read_length(b)?,
         }),
+        "decode-soft" => Some(Command::DecodeSoft {
+            rate: read_rate(a)?,
+            length: read_length(b)?,
+        }),
         "send" => Some(Command::Send {
             rate: read_rate(a)?,
             seed: read_seed(b)?,

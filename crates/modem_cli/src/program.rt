@@ -1,7 +1,7 @@
 //! One run of the program, over any ports.
 ghost use Rattle.std.specs.Prelude.{◌≡◌, ◌≢◌, ◌↔◌, ◌+◌, ◌*◌, ◌/◌, ◌≤◌, ◌⊎◌, List, ℕ, length, IfErr, IfSome, IsErrAnd, IsErrOf, OnOk};
 ghost use Rattle.std.specs.Result.{result_err};
-ghost use Rattle.command_answers.specs.Flips.{IsFlippedText};
+ghost use Rattle.command_answers.specs.Flips.{IsCheapText, IsFlippedText};
 ghost use Rattle.command_answers.specs.InNoise.{IsCaptureInNoise, lines_of};
 ghost use Rattle.command_answers.specs.InOrder.{Outcome, Refuses, Writes};
 ghost use Rattle.command_answers.specs.Inputs.{Reads, reads};
@@ -19,7 +19,8 @@ ghost use Rattle.report_lines.specs.declared.Refusal.{Refusal};
 ghost use Rattle.report_lines.specs.Refusals.{IsDecided, asking, status_of, step_of};
 
 use command_answers::laws::{
-    capture_in_noise_gives_its_frames, flipped_text_gives_its_psdu, outcome_is_one,
+    capture_in_noise_gives_its_frames, cheap_text_gives_its_psdu, flipped_text_gives_its_psdu,
+    outcome_is_one,
 };
 use command_answers::{answer_from, write_answer};
 use command_words::read_request;
@@ -107,6 +108,14 @@ pub fn run<S: Source, K: Sink, E: Sink>(
         → IsFlippedText (texts_of words.now) bytes psdu
         → IsWrittenUnlessNoMemory result psdu (K.taken out.old) (K.taken out.new)) }
 
+    // The text of costs against which a field's kept code costs little, which `decode-soft` is asked to
+    // read, gives that field's PSDU.
+    ensures soft_repaired { ¬ Rose (S.faults source.old) (S.faults source.new)
+        → ¬ Rose (K.faults out.old) (K.faults out.new)
+        → IfSome (S.left source.old) (λ bytes. (psdu : List ℕ)
+        → IsCheapText (texts_of words.now) bytes psdu
+        → IsWrittenUnlessNoMemory result psdu (K.taken out.old) (K.taken out.new)) }
+
     // With `receive`, want of memory comes before the first read, and the steps are at most 32 for each
     // sample, and 512.
     ensures memory_first { Say (texts_of words.now) Command.Receive
@@ -123,6 +132,7 @@ pub fn run<S: Source, K: Sink, E: Sink>(
     outcome_is_one();
     capture_in_noise_gives_its_frames();
     flipped_text_gives_its_psdu();
+    cheap_text_gives_its_psdu();
 
     match execute(alloc, words, source, out, steps) {
         Ok(()) => Status::Ok,

@@ -128,6 +128,10 @@ pub(crate) fn a_hundred_octets() -> [u8; 100] {
 const KEPT: &[u8] =
     b"001110101101000100100100101000000011001010110010100100001011111010110100100101101101100010000011\n";
 
+// The same as digits, of which five lean to the wrong bit.
+const LEANING: &[u8] =
+    b"00fff0f0ff0f000f00f00f00f0f0000088ff0070f0ff88f0f00f0000f0fffff0f0ff0f00f00f0ff0ff0ff000f00000ff";
+
 #[test]
 fn answers_of_one_octet(rt: HostRuntime) -> Result<(), Fail> {
     let three_quarters = b"001010110000100010100001001011001000001111101100\n";
@@ -251,6 +255,8 @@ fn refuses_words(rt: HostRuntime) -> Result<(), Fail> {
         "decode 6 01",
         "decode 7 1",
         "decode 6",
+        "decode-soft 6 4096",
+        "decode_soft 6 1",
         "send 7 1",
         "send 6 0",
         "send 6 128",
@@ -274,7 +280,7 @@ fn refuses_words(rt: HostRuntime) -> Result<(), Fail> {
 fn refuses_inputs(rt: HostRuntime) -> Result<(), Fail> {
     let long = vec![in rt.alloc(); 0u8; 4096]?;
     let longer = vec![in rt.alloc(); 0u8; 5000]?;
-    let rows: [(&str, &[u8], &str); 9] = [
+    let rows: [(&str, &[u8], &str); 13] = [
         ("bits 6 93", &[], "error 2: empty psdu\n"),
         ("send 36 93", &[], "error 2: empty psdu\n"),
         ("bits 6 93", &long, "error 3: psdu over 4095 octets\n"),
@@ -284,6 +290,10 @@ fn refuses_inputs(rt: HostRuntime) -> Result<(), Fail> {
         ("decode 6 1", b"01\n", "error 7: 2 bits, need 96\n"),
         ("decode 6 1", b"", "error 7: 0 bits, need 96\n"),
         ("decode 6 1", b"\n0", "error 6: no bit at 0\n"),
+        ("decode-soft 6 1", b"0G", "error 16: no cost at 1\n"),
+        ("decode-soft 6 1", b"0F", "error 16: no cost at 1\n"),
+        ("decode-soft 6 1", b"0f\n\n", "error 16: no cost at 2\n"),
+        ("decode-soft 6 1", b"0f\n", "error 17: 2 costs, need 96\n"),
     ];
     for (line, input, report) in rows {
         check(
@@ -429,6 +439,40 @@ fn decodes_with_flips(rt: HostRuntime) -> Result<(), Fail> {
     Ok(())
 }
 
+// The digits `0` and `f` of a text of bits.
+fn digits_of(alloc: Global, text: &[u8]) -> Result<Vec<u8>, AllocError> {
+    let mut digits = Vec::with_capacity(alloc, text.len())?;
+    for character in text {
+        digits.push(if *character == b'1' { b'f' } else { *character })?;
+    }
+    Ok(digits)
+}
+
+// Digits of which five lean to the wrong bit, and texts of bits with flips, as digits that are sure.
+#[test]
+fn decodes_costs(rt: HostRuntime) -> Result<(), Fail> {
+    check(
+        &rt,
+        rt.alloc(),
+        &answers("decode-soft 6 1", LEANING, Out::Whole(&[0])),
+    )?;
+    let rows: [(&[usize], u8); 3] = [
+        (&[0, 1, 2, 3], 0),
+        (&[32, 33, 35, 36, 37, 38], 1),
+        (&[32, 33, 38, 44, 45], 1),
+    ];
+    for (places, octet) in rows {
+        let text = flipped(rt.alloc(), KEPT, places)?;
+        let digits = digits_of(rt.alloc(), &text)?;
+        check(
+            &rt,
+            rt.alloc(),
+            &answers("decode-soft 6 1", &digits, Out::Whole(&[octet])),
+        )?;
+    }
+    Ok(())
+}
+
 // At 54 Mb/s two flips are repaired.
 #[test]
 fn decodes_what_bits_wrote_with_flips(rt: HostRuntime) -> Result<(), Fail> {
@@ -549,6 +593,7 @@ fn refuses_endless_inputs(rt: HostRuntime) -> Result<(), Fail> {
         ("bits 6 93", "error 3: psdu over 4095 octets\n"),
         ("decode 6 1", "error 5: input over 67108864 bytes\n"),
         ("receive", "error 5: input over 67108864 bytes\n"),
+        ("decode-soft 6 1", "error 5: input over 67108864 bytes\n"),
     ];
     for (line, report) in rows {
         let ran = run_line(

@@ -1,7 +1,7 @@
 -- The kinds of refusals: those that words and input decide, the faults of the ports, and want of memory.
 use Rattle.std.proofs.Common.{◌≡◌, ◌⊎◌, inl, inr, refl, subst}
 use Rattle.report_lines.specs.declared.Refusal.{Refusal}
-use Rattle.report_lines.specs.declared.Refusal.TheVariants.{Words, EmptyPsdu, LongPsdu, TornCapture, LongCapture, BadBit, BitCount, NoFrame, CutFrame, ReadFault, WriteFault, NoMemory, BadScript}
+use Rattle.report_lines.specs.declared.Refusal.TheVariants.{Words, EmptyPsdu, LongPsdu, TornCapture, LongCapture, BadBit, BitCount, NoFrame, CutFrame, ReadFault, WriteFault, NoMemory, BadScript, BadCost, CostCount}
 use Rattle.report_lines.specs.declared.Status.TheVariants as status
 use Rattle.report_lines.specs.Refusals.{IsDecided, asking, status_of, step_of}
 
@@ -19,6 +19,8 @@ kinds ReadFault = inr (inl refl)
 kinds WriteFault = inr (inr (inl refl))
 kinds NoMemory = inr (inr (inr refl))
 kinds (BadScript at) = inl tt
+kinds (BadCost at) = inl tt
+kinds (CostCount have need) = inl tt
 
 -- the status of bad words is that of the refusals of words alone
 pub of_words : (refusal : Refusal) → status_of refusal ≡ status.BadWords → step_of refusal ≡ asking
@@ -35,6 +37,8 @@ of_words ReadFault is = cc
 of_words WriteFault is = cc
 of_words NoMemory is = cc
 of_words (BadScript at) is = refl
+of_words (BadCost at) is = cc
+of_words (CostCount have need) is = cc
 
 -- .. and the refusals of words have no other
 pub of_asking : (refusal : Refusal) → step_of refusal ≡ asking → status_of refusal ≡ status.BadWords
@@ -51,6 +55,8 @@ of_asking ReadFault is = cc
 of_asking WriteFault is = cc
 of_asking NoMemory is = cc
 of_asking (BadScript at) is = refl
+of_asking (BadCost at) is = cc
+of_asking (CostCount have need) is = cc
 
 -- no refusal has the status of a run that answered
 pub no_refusal_is_ok : (refusal : Refusal) → status_of refusal ≡ status.Ok → ⊥

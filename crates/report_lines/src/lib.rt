@@ -83,6 +83,11 @@ pub enum Refusal {
     /// The words ask for noise with a text that is no script: it is bad at the place `at`, counted
     /// from 0.
     BadScript { at: usize },
+    /// The least place of a text of costs, counted from 0, that holds no digit, the final newline
+    /// excepted.
+    BadCost { at: usize },
+    /// The text has `have` costs, and the words ask for another number, `need`.
+    CostCount { have: u32, need: u32 },
 }
 
 impl Refusal {
@@ -97,7 +102,9 @@ impl Refusal {
             | Refusal::TornCapture { .. }
             | Refusal::LongCapture
             | Refusal::BadBit { .. }
-            | Refusal::BitCount { .. } => Status::BadInput,
+            | Refusal::BitCount { .. }
+            | Refusal::BadCost { .. }
+            | Refusal::CostCount { .. } => Status::BadInput,
             Refusal::NoFrame => Status::NoFrame,
             Refusal::CutFrame { .. } => Status::CutFrame,
             Refusal::ReadFault => Status::ReadFault,

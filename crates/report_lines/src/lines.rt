@@ -109,5 +109,13 @@ pub fn line_of(refusal: &Refusal) -> Line
         Refusal::BadScript { at } => Line::of(b"error 13: bad script at ")
             .with_place(*at)
             .with(b"\n"),
+        Refusal::BadCost { at } => Line::of(b"error 16: no cost at ")
+            .with_place(*at)
+            .with(b"\n"),
+        Refusal::CostCount { have, need } => Line::of(b"error 17: ")
+            .with_number(*have)
+            .with(b" costs, need ")
+            .with_number(*need)
+            .with(b"\n"),
     }
 }

@@ -7,7 +7,7 @@ use Rattle.report_lines.specs.declared.Refusal.TheVariants.{LongCapture, LongPsd
 use Rattle.report_lines.specs.declared.Status.TheVariants as status
 use Rattle.report_lines.specs.Refusals.{status_of}
 use Rattle.command_words.specs.Grammar.{texts_of}
-use Rattle.command_answers.specs.Flips.{IsFlippedText}
+use Rattle.command_answers.specs.Flips.{IsCheapText, IsFlippedText}
 use Rattle.command_answers.specs.InNoise.{IsCaptureInNoise, lines_of}
 use Rattle.report_lines.proofs.ByKind.{no_refusal_is_ok}
 use Rattle.modem_cli.proofs.Refused.{answered_follows, answered_refuses, bad_words, refused_answers, refused_ask_nothing, refused_follows, refused_refuses, refuses_words, where_refused}
@@ -59,6 +59,11 @@ returns-in-Ok-clause-repaired g c = λ unread unwritten.
     written_where_answered c.outcome_is_one.ensures.only (texts_of c.args.words.now) (IsFlippedText (texts_of c.args.words.now)) (λ psdu. psdu)
     (c.flipped_text_gives_its_psdu.ensures (texts_of c.args.words.now)) (g.S.Source.left c.args.source.now) (g.K.Sink.taken c.args.out.now) (g.K.Sink.taken c.execute.new.out) _ refl c.in-Ok.ensures.ok
 
+pub returns-in-Ok-clause-soft_repaired : goal.returns-in-Ok-clause-soft_repaired
+returns-in-Ok-clause-soft_repaired g c = λ unread unwritten.
+    written_where_answered c.outcome_is_one.ensures.only (texts_of c.args.words.now) (IsCheapText (texts_of c.args.words.now)) (λ psdu. psdu)
+    (c.cheap_text_gives_its_psdu.ensures (texts_of c.args.words.now)) (g.S.Source.left c.args.source.now) (g.K.Sink.taken c.args.out.now) (g.K.Sink.taken c.execute.new.out) _ refl c.in-Ok.ensures.ok
+
 pub returns-in-Ok-clause-withstood : goal.returns-in-Ok-clause-withstood
 returns-in-Ok-clause-withstood g c = λ unread unwritten.
     written_where_answered c.outcome_is_one.ensures.only (texts_of c.args.words.now) (IsCaptureInNoise (texts_of c.args.words.now)) lines_of
@@ -72,6 +77,12 @@ pub returns-in-Err-clause-repaired : goal.returns-in-Err-clause-repaired
 returns-in-Err-clause-repaired g c = λ unread unwritten.
     written_where_refused (texts_of c.args.words.now) (IsFlippedText (texts_of c.args.words.now)) (λ psdu. psdu)
     (c.flipped_text_gives_its_psdu.ensures (texts_of c.args.words.now)) (g.S.Source.left c.args.source.now) (g.K.Sink.taken c.args.out.now) (g.K.Sink.taken c.execute.new.out) c.refuse.result
+    (λ is. no_refusal_is_ok c.in-Err.refusal (rw c.refuse.ensures.status at is)) (returns-in-Err-clause-answers g c unread unwritten)
+
+pub returns-in-Err-clause-soft_repaired : goal.returns-in-Err-clause-soft_repaired
+returns-in-Err-clause-soft_repaired g c = λ unread unwritten.
+    written_where_refused (texts_of c.args.words.now) (IsCheapText (texts_of c.args.words.now)) (λ psdu. psdu)
+    (c.cheap_text_gives_its_psdu.ensures (texts_of c.args.words.now)) (g.S.Source.left c.args.source.now) (g.K.Sink.taken c.args.out.now) (g.K.Sink.taken c.execute.new.out) c.refuse.result
     (λ is. no_refusal_is_ok c.in-Err.refusal (rw c.refuse.ensures.status at is)) (returns-in-Err-clause-answers g c unread unwritten)
 
 pub returns-in-Err-clause-withstood : goal.returns-in-Err-clause-withstood
