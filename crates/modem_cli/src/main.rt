@@ -2,21 +2,14 @@
 //! program.
 #![tactic(auto)]
 
+pub use command_words::read_words;
+pub use frame_stages::stage_text;
 use modem_ports::{StdSink, StdSource, Steps};
+pub use modem_runs::{dry_run, run};
 use report_lines::Status;
 use std::env::Env;
 use std::process::ExitCode;
 use std::{env, io};
-
-mod program;
-#[cfg(test)]
-mod receive_tests;
-#[cfg(test)]
-mod tests;
-
-pub use command_words::read_words;
-pub use frame_stages::stage_text;
-pub use program::{dry_run, run};
 
 // The code where the words of the command line can't be had for another cause than want of memory:
 // that of no status.

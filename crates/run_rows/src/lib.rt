@@ -1,0 +1,7 @@
+//! Rows of the commands, run over ports in memory: tests alone.
+#![tactic(auto)]
+
+#[cfg(test)]
+mod receive_tests;
+#[cfg(test)]
+mod tests;
