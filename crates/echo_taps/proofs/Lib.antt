@@ -1,0 +1,5 @@
+pub mod TapWords
+pub mod Series
+pub mod Sames
+pub mod Taking
+pub mod Gathering

@@ -1,0 +1,4 @@
+pub mod Taps
+pub mod Texts
+pub mod Echoes
+pub mod Laws

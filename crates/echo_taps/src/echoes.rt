@@ -1,0 +1,83 @@
+//! The echo of samples.
+ghost use Rattle.std.specs.Prelude.{◌≡◌, ◌+◌, ◌^◌, ◌≤◌, ℕ, [], ◌∷◌, ◌++◌, length, unsigned_abs, IfOk, OnOk};
+ghost use Rattle.echo_taps.specs.Echoes.{earlier, echo_of, gathered, held_sample};
+ghost use Rattle.fixed_complex.specs.PairLists.{PairsWithin};
+ghost use Rattle.fixed_complex.specs.Pairs.{IsWithin};
+ghost use Rattle.fixed_complex.specs.Rounding.{half_up};
+ghost use Rattle.lane_kernels.specs.Kernels.{held};
+
+use fixed_complex::{Cx, Sample, add, mul};
+use std::alloc::{AllocError, Global};
+
+// The echo of samples, by eight pairs.
+pub(crate) fn echo(
+    alloc: Global,
+    pairs: &[Cx; 8],
+    samples: &[Sample],
+) -> Result<Vec<Sample>, AllocError>
+    requires samples { length samples.now ≤ 2 ^ 24 }
+    requires pairs { PairsWithin 1024 pairs.now }
+    ensures echo { IfOk result (λ echo. echo.items ≡ echo_of pairs.now samples.now) }
+{
+    let count = samples.len() + 7;
+    let mut echo = Vec::with_capacity(alloc, count)?;
+    for place in 0..count {
+        push_held(&mut echo, sum_at(pairs, samples, place))?;
+    }
+    Ok(echo)
+}
+
+// Appends the held sample of a sum.
+fn push_held(echo: &mut Vec<Sample>, sum: Cx) -> Result<(), AllocError>
+    requires { IsWithin (2 ^ 34) sum }
+    ensures { OnOk result (echo.new.items ≡ echo.old.items ++ held_sample sum ∷ []) }
+{
+    echo.push(held_of(sum))?;
+    Ok(())
+}
+
+// A pair over 1024, rounded half up and held.
+fn held_of(sum: Cx) -> Sample
+    requires { IsWithin (2 ^ 34) sum }
+    ensures { result ≡ held_sample sum }
+{
+    Sample {
+        i: component(sum.re),
+        q: component(sum.im),
+    }
+}
+
+// What comes together at a place.
+fn sum_at(pairs: &[Cx; 8], samples: &[Sample], place: usize) -> Cx
+    requires { PairsWithin 1024 pairs.now }
+    ensures sum { result ≡ gathered pairs.now samples.now place }
+    ensures within { IsWithin (2 ^ 34) result }
+{
+    let mut sum = Cx { re: 0, im: 0 };
+    for late in 0..8 {
+        sum = add(sum, mul(pairs[late], pair_at(samples, place, late)));
+    }
+    sum
+}
+
+// The sample so many places before a place, as a pair.
+fn pair_at(samples: &[Sample], place: usize, late: usize) -> Cx
+    ensures pair { result ≡ earlier samples.now place late }
+    ensures within { IsWithin (2 ^ 15) result }
+{
+    match place.checked_sub(late).and_then(|at| samples.get(at)) {
+        Some(sample) => Cx {
+            re: i64::from(sample.i),
+            im: i64::from(sample.q),
+        },
+        None => Cx { re: 0, im: 0 },
+    }
+}
+
+// A component over 1024, rounded half up and held.
+fn component(part: i64) -> i16
+    requires { unsigned_abs part ≤ 2 ^ 34 }
+    ensures { result ≡ held (half_up 10 part) }
+{
+    ((part + 512) >> 10).clamp(-32768, 32767) as i16
+}
