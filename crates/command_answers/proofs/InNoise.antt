@@ -12,7 +12,7 @@ use Rattle.command_answers.specs.Outcome.{of_request}
 use Rattle.command_answers.specs.Receiving.{HasReceived}
 
 -- of findings without a cut, of which there are some, the lines are written
-lines_received : (bytes : List ℕ) (frames : List SentFrame) → 0 < length frames → AreFindings (samples_in bytes) (map heard_of frames) None → HasReceived (samples_in bytes) (Writes (lines_of frames))
+pub lines_received : (bytes : List ℕ) (frames : List SentFrame) → 0 < length frames → AreFindings (samples_in bytes) (map heard_of frames) None → HasReceived (samples_in bytes) (Writes (lines_of frames))
 lines_received bytes [] some found = absurd (omega (arith, some))
 lines_received bytes (first ∷ frames) some found = (map heard_of (first ∷ frames), None, found, refl)
 

@@ -19,7 +19,7 @@ use Rattle.command_answers.specs.Inputs.{IsAccepted, IsInput, OfInput, RefusesIn
 use Rattle.command_answers.proofs.InOrder.{AllAre, AtLeastOne, AtMostOne, unless_all, unless_one, unless_some, unless_to}
 
 -- a number is above a limit or not
-over_or_not : (limit n : ℕ) → (limit < n) ⊎ ¬ (limit < n)
+pub over_or_not : (limit n : ℕ) → (limit < n) ⊎ ¬ (limit < n)
 over_or_not limit n = elim (cases_lt limit n) [ inl over ↦ inl over | inr most ↦ inr (λ over. omega arith) ]
 
 -- so many bytes are torn samples or whole ones

@@ -1,9 +1,12 @@
 -- What holds of outcomes, for every input: what the laws ensure (own).
 use Rattle.std.specs.Prelude.{◌≡◌, ℕ, List}
 use Rattle.frame_lists.specs.Near.{SentFrame}
+use Rattle.list_texts.specs.declared.Entry.{Entry}
+use Rattle.send_lists.specs.Sent.{frames_of_list}
 use Rattle.command_answers.specs.Flips.{IsCheapText, IsFlippedText}
 use Rattle.command_answers.specs.InNoise.{IsCaptureInNoise, lines_of}
 use Rattle.command_answers.specs.InOrder.{Outcome, Writes}
+use Rattle.command_answers.specs.Listing.{IsSentList, bytes_of_list}
 use Rattle.command_answers.specs.Outcome.{HasOutcome}
 
 -- all words and all bytes have an outcome
@@ -36,3 +39,12 @@ abbrev pub CheapTextGivesItsPsdu : Type 0
 CheapTextGivesItsPsdu =
     (words : List (List ℕ)) (bytes psdu : List ℕ)
     → IsCheapText words bytes psdu → HasOutcome words bytes (Writes psdu)
+
+-- the outcome of a list of frames that is not too long: the bytes of its samples are written; and the outcome of these, which
+-- are received: the lines of exactly its frames, at their starts, in order
+abbrev pub SentListGivesItsFrames : Type 0
+SentListGivesItsFrames =
+    (words back : List (List ℕ)) (text : List ℕ) (entries : List Entry)
+    → IsSentList words back text entries
+    → HasOutcome words text (Writes (bytes_of_list entries))
+    × HasOutcome back (bytes_of_list entries) (Writes (lines_of (frames_of_list entries)))

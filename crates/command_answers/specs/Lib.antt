@@ -1,6 +1,7 @@
 pub mod InOrder
 pub mod Inputs
 pub mod Decoding
+pub mod Listing
 pub mod Answers
 pub mod Receiving
 pub mod Outcome

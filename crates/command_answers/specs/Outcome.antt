@@ -8,13 +8,14 @@ use Rattle.report_lines.specs.declared.Status.TheVariants as status
 use Rattle.report_lines.specs.Refusals.{status_of}
 use Rattle.command_words.specs.declared.Command.{Command}
 use Rattle.command_words.specs.declared.Request.{Request}
-use Rattle.command_words.specs.declared.Request.TheVariants.{Bits, Decode, DecodeSoft, Send, Receive, Noise, Inspect, Show}
+use Rattle.command_words.specs.declared.Request.TheVariants.{Bits, Decode, DecodeSoft, Send, SendList, Receive, Noise, Inspect, Show}
 use Rattle.command_words.specs.declared.Stage.TheVariants.{Kept}
 use Rattle.command_words.specs.Asking.{AreRefusedFor, AskFor, command_of}
 use Rattle.frame_stages.specs.Stages.{stage_text_of}
 use Rattle.command_answers.specs.Answers.{noisy_bytes}
 use Rattle.command_answers.specs.Receiving.{HasReceived, HasReports}
 use Rattle.command_answers.specs.Decoding.{DecodeOutcome, SoftOutcome}
+use Rattle.command_answers.specs.Listing.{ListOutcome}
 use Rattle.command_answers.specs.InOrder.{Answers, Outcome, Refuses, Writes}
 use Rattle.command_answers.specs.Inputs.{OfInput, ReadsToEnd, accepted, reads, taken}
 
@@ -25,6 +26,7 @@ AnswerOf (Decode rate octets) read outcome = DecodeOutcome rate octets read outc
 AnswerOf (DecodeSoft rate octets) read outcome = SoftOutcome rate octets read outcome
 AnswerOf (Send rate seed) read outcome = outcome ≡ Writes (sent_bytes rate seed read)
 AnswerOf (Noise items) read outcome = outcome ≡ Writes (noisy_bytes items read)
+AnswerOf SendList read outcome = ListOutcome read outcome
 AnswerOf Receive read outcome = HasReceived (samples_in read) outcome
 AnswerOf Inspect read outcome = Answers (HasReports (samples_in read)) outcome
 AnswerOf (Show stage rate seed) read outcome = outcome ≡ Writes (stage_text_of stage rate seed read)

@@ -15,6 +15,7 @@ ghost use Rattle.noise_script.specs.Effects.{after_items};
 ghost use Rattle.report_lines.specs.Refusals.{answering, step_of};
 
 use crate::decoding::{decoded, soft_decoded};
+use crate::listing::listed;
 use capture_files::{samples_of, write_samples};
 use command_words::{Request, Stage};
 use finding_lines::reports_text;
@@ -61,6 +62,7 @@ pub(crate) fn answer_of(
             Ok(Answer::Samples(frame_samples(alloc, rate, seed, input)?))
         }
         Request::Noise { script } => Ok(Answer::Samples(noisy_samples(alloc, &script, input)?)),
+        Request::SendList => listed(alloc, input),
         Request::Receive => unreachable!(),
         Request::Inspect => Ok(Answer::Bytes(edges_text(alloc, input, steps)?)),
         Request::Show { stage, rate, seed } => {

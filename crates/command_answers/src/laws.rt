@@ -1,9 +1,9 @@
 //! What holds of outcomes, for every input. Its functions do nothing: what each ensures is the law.
-ghost use Rattle.command_answers.specs.Laws.{CaptureInNoiseGivesItsFrames, CheapTextGivesItsPsdu, FlippedTextGivesItsPsdu, OneOutcome, SomeOutcome};
+ghost use Rattle.command_answers.specs.Laws.{CaptureInNoiseGivesItsFrames, CheapTextGivesItsPsdu, FlippedTextGivesItsPsdu, OneOutcome, SentListGivesItsFrames, SomeOutcome};
 
-use frame_fields::laws::{few_flips, one_field};
+use frame_fields::laws::{few_flips, one_field, sent_frames};
 use frame_findings::laws::{one_reception, one_report};
-use frames_in_noise::laws::noise_is_withstood;
+use frames_in_noise::laws::{noise_is_withstood, sent_lists_are_heard};
 use soft_trellis::laws::{little_cost, one_soft_field};
 
 /// All words and all bytes have exactly one outcome (own).
@@ -40,4 +40,14 @@ pub fn capture_in_noise_gives_its_frames()
     ensures { CaptureInNoiseGivesItsFrames }
 {
     noise_is_withstood();
+}
+
+/// What `send-list` is asked to write of a list of at most 16777216 samples: the bytes of its samples; and
+/// what `receive` is asked to write of these bytes: the lines of exactly the list's frames, at their
+/// starts, in order (own).
+pub fn sent_list_gives_its_frames()
+    ensures { SentListGivesItsFrames }
+{
+    sent_frames();
+    sent_lists_are_heard();
 }

@@ -4,6 +4,7 @@
 mod answers;
 mod decoding;
 pub mod laws;
+mod listing;
 mod reading;
 mod requests;
 

@@ -33,7 +33,8 @@ impl Reading {
     {
         match request {
             Request::Bits { .. } | Request::Send { .. } | Request::Show { .. } => Reading::Psdu,
-            Request::Decode { .. } | Request::DecodeSoft { .. } => Reading::Bytes,
+            Request::Decode { .. } | Request::DecodeSoft { .. } | Request::SendList =>
+                Reading::Bytes,
             Request::Receive | Request::Noise { .. } | Request::Inspect => Reading::Capture,
         }
     }

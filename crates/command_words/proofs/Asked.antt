@@ -15,7 +15,7 @@ use Rattle.report_lines.specs.Refusals.{asking, step_of}
 use Rattle.command_words.specs.declared.Command.{Command}
 use Rattle.command_words.specs.declared.Command.TheVariants as command
 use Rattle.command_words.specs.declared.Request.{Request}
-use Rattle.command_words.specs.declared.Request.TheVariants.{Bits, Decode, DecodeSoft, Send, Receive, Noise, Inspect, Show}
+use Rattle.command_words.specs.declared.Request.TheVariants.{Bits, Decode, DecodeSoft, Send, SendList, Receive, Noise, Inspect, Show}
 use Rattle.command_words.specs.Asking.{AreRefusedFor, AskFor, AskForNothing, CarryText, command_of, for_script, for_words}
 use Rattle.command_words.specs.Grammar.{Say, noise_words}
 use Rattle.command_words.proofs.Reading.{one_command, said_or_not, same_text, text_in}
@@ -43,6 +43,7 @@ request_in words (command.Decode rate octets) = Decode rate octets
 request_in words (command.DecodeSoft rate octets) = DecodeSoft rate octets
 request_in words (command.Send rate seed) = Send rate seed
 request_in words command.Noise = Noise (items_of (text_in words) (decided_script (text_in words)))
+request_in words command.SendList = SendList
 request_in words command.Receive = Receive
 request_in words command.Inspect = Inspect
 request_in words (command.Show stage rate seed) = Show stage rate seed
@@ -54,6 +55,7 @@ asked_is_read words (Decode rate octets) carried = refl
 asked_is_read words (DecodeSoft rate octets) carried = refl
 asked_is_read words (Send rate seed) carried = refl
 asked_is_read words (Noise items) (text, are, says) = rw (same_text words text are) (ap (λ list. Noise list) (items_back items text says))
+asked_is_read words SendList carried = refl
 asked_is_read words Receive carried = refl
 asked_is_read words Inspect carried = refl
 asked_is_read words (Show stage rate seed) carried = refl
@@ -74,6 +76,7 @@ asked_where_said words command.Noise says =
       | inl script ↦ inl (Noise script.0, record { said = says; carried = (says.are.0, says.are.1, script.1) })
       | inr bad ↦ inr (refusal.BadScript bad.0, for_script says.are.0 says.are.1 bad.0 bad.1 refl)
     ]
+asked_where_said words command.SendList says = inl (SendList, record { said = says; carried = tt })
 asked_where_said words command.Receive says = inl (Receive, record { said = says; carried = tt })
 asked_where_said words command.Inspect says = inl (Inspect, record { said = says; carried = tt })
 asked_where_said words (command.Show stage rate seed) says = inl (Show stage rate seed, record { said = says; carried = tt })
@@ -93,6 +96,7 @@ script_asked words (Decode rate octets) text is carried are = cc
 script_asked words (DecodeSoft rate octets) text is carried are = cc
 script_asked words (Send rate seed) text is carried are = cc
 script_asked words (Noise items) text is (text', are', says) are = (items, subst (λ t. SaysScript 16 items t) (sym (same_text words text' are') ∙ same_text words text are) says)
+script_asked words SendList text is carried are = cc
 script_asked words Receive text is carried are = cc
 script_asked words Inspect text is carried are = cc
 script_asked words (Show stage rate seed) text is carried are = cc

@@ -10,7 +10,7 @@ use Rattle.rate_table.proofs.ByRate.{by_rate, rate_of_mbps, rate_of_mbps-of}
 use Rattle.rate_table.specs.declared.Rate.{Rate}
 use Rattle.rate_table.specs.Table.{row_of}
 use Rattle.command_words.specs.declared.Command.{Command}
-use Rattle.command_words.specs.declared.Command.TheVariants.{Bits, Decode, DecodeSoft, Send, Receive, Noise, Inspect, Show}
+use Rattle.command_words.specs.declared.Command.TheVariants.{Bits, Decode, DecodeSoft, Send, SendList, Receive, Noise, Inspect, Show}
 use Rattle.command_words.specs.declared.Stage.{Stage}
 use Rattle.command_words.specs.declared.Stage.TheVariants.{Scrambled, Coded, Kept, Interleaved, Points, Header, Samples}
 use Rattle.command_words.specs.Grammar.{AreWordsOf, IsFrom, IsInRange, Say, SayNothing, noise_words, rate_word, stage_word}
@@ -61,7 +61,9 @@ stage_back Samples = refl
 -- the command that words say, if they say one: by their number and the first of them
 command_in : List (List ℕ) → Option Command
 command_in (name ∷ []) =
-    cond (bytes_eq name (codes "inspect")) (Some Inspect) (cond (bytes_eq name (codes "receive")) (Some Receive) None)
+    cond (bytes_eq name (codes "inspect")) (Some Inspect)
+    (cond (bytes_eq name (codes "receive")) (Some Receive)
+    (cond (bytes_eq name (codes "send-list")) (Some SendList) None))
 command_in (name ∷ text ∷ []) = cond (bytes_eq name (codes "noise")) (Some Noise) None
 command_in (name ∷ a ∷ b ∷ []) =
     cond (bytes_eq name (codes "bits")) (Some (Bits (rate_in a) (number_in b)))
@@ -78,6 +80,7 @@ reads_back words (Decode rate octets) range are = rw (are, rate_back rate, numbe
 reads_back words (DecodeSoft rate octets) range are = rw (are, rate_back rate, number_back octets (omega (arith, range.1))) refl
 reads_back words (Send rate seed) range are = rw (are, rate_back rate, number_back seed (omega (arith, range.1))) refl
 reads_back words Noise range (text, are) = rw are refl
+reads_back words SendList range are = rw are refl
 reads_back words Receive range are = rw are refl
 reads_back words Inspect range are = rw are refl
 reads_back words (Show stage rate seed) range are = rw (are, stage_back stage, rate_back rate, number_back seed (omega (arith, range.1))) refl
@@ -105,6 +108,7 @@ range_decided (Decode rate octets) = from_decided 1 4095 octets
 range_decided (DecodeSoft rate octets) = from_decided 1 4095 octets
 range_decided (Send rate seed) = from_decided 1 127 seed
 range_decided Noise = inl tt
+range_decided SendList = inl tt
 range_decided Receive = inl tt
 range_decided Inspect = inl tt
 range_decided (Show stage rate seed) = from_decided 1 127 seed
@@ -141,6 +145,7 @@ words_decided words (Decode rate octets) = same_words words _
 words_decided words (DecodeSoft rate octets) = same_words words _
 words_decided words (Send rate seed) = same_words words _
 words_decided words Noise = noise_decided words
+words_decided words SendList = same_words words _
 words_decided words Receive = same_words words _
 words_decided words Inspect = same_words words _
 words_decided words (Show stage rate seed) = same_words words _

@@ -7,7 +7,7 @@ use Rattle.report_lines.specs.declared.Refusal.TheVariants.{BadScript, Words}
 use Rattle.command_words.specs.declared.Command.{Command}
 use Rattle.command_words.specs.declared.Command.TheVariants as command
 use Rattle.command_words.specs.declared.Request.{Request}
-use Rattle.command_words.specs.declared.Request.TheVariants.{Bits, Decode, DecodeSoft, Send, Receive, Noise, Inspect, Show}
+use Rattle.command_words.specs.declared.Request.TheVariants.{Bits, Decode, DecodeSoft, Send, SendList, Receive, Noise, Inspect, Show}
 use Rattle.command_words.specs.Grammar.{Say, SayNothing, noise_words}
 
 -- the command of a request
@@ -17,6 +17,7 @@ command_of (Decode rate octets) = command.Decode rate octets
 command_of (DecodeSoft rate octets) = command.DecodeSoft rate octets
 command_of (Send rate seed) = command.Send rate seed
 command_of (Noise items) = command.Noise
+command_of SendList = command.SendList
 command_of Receive = command.Receive
 command_of Inspect = command.Inspect
 command_of (Show stage rate seed) = command.Show stage rate seed

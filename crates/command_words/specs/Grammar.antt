@@ -9,7 +9,7 @@ use Rattle.ofdm_scrambler.specs.Sequence.{IsSeed}
 use Rattle.command_words.specs.declared.Stage.{Stage}
 use Rattle.command_words.specs.declared.Stage.TheVariants.{Scrambled, Coded, Kept, Interleaved, Points, Header, Samples}
 use Rattle.command_words.specs.declared.Command.{Command}
-use Rattle.command_words.specs.declared.Command.TheVariants.{Bits, Decode, DecodeSoft, Send, Receive, Noise, Inspect, Show}
+use Rattle.command_words.specs.declared.Command.TheVariants.{Bits, Decode, DecodeSoft, Send, SendList, Receive, Noise, Inspect, Show}
 
 -- the texts of the words of the command line
 abbrev pub texts_of : Vec (String Global) Global → List (List ℕ)
@@ -42,6 +42,7 @@ AreWordsOf (DecodeSoft rate octets) words =
     words ≡ codes "decode-soft" ∷ rate_word rate ∷ decimal octets ∷ []
 AreWordsOf (Send rate seed) words = words ≡ codes "send" ∷ rate_word rate ∷ decimal seed ∷ []
 AreWordsOf Noise words = (text : List ℕ) × (words ≡ noise_words text)
+AreWordsOf SendList words = words ≡ codes "send-list" ∷ []
 AreWordsOf Receive words = words ≡ codes "receive" ∷ []
 AreWordsOf Inspect words = words ≡ codes "inspect" ∷ []
 AreWordsOf (Show stage rate seed) words =
@@ -54,6 +55,7 @@ IsInRange (Decode rate octets) = IsLength octets
 IsInRange (DecodeSoft rate octets) = IsLength octets
 IsInRange (Send rate seed) = IsSeed seed
 IsInRange Noise = Unit {0}
+IsInRange SendList = Unit {0}
 IsInRange Receive = Unit {0}
 IsInRange Inspect = Unit {0}
 IsInRange (Show stage rate seed) = IsSeed seed

@@ -26,6 +26,7 @@ pub fn read_request(words: &Vec<String>) -> Result<Request, Refusal>
         Command::DecodeSoft { rate, length } => Ok(Request::DecodeSoft { rate, length }),
         Command::Send { rate, seed } => Ok(Request::Send { rate, seed }),
         Command::Noise => read_noise(words[1].as_str()),
+        Command::SendList => Ok(Request::SendList),
         Command::Receive => Ok(Request::Receive),
         Command::Inspect => Ok(Request::Inspect),
         Command::Show { stage, rate, seed } => Ok(Request::Show { stage, rate, seed }),

@@ -57,6 +57,8 @@ pub enum Command {
     },
     /// `noise SCRIPT`, whatever the text is that stands for the script.
     Noise,
+    /// `send-list`
+    SendList,
     /// `receive`
     Receive,
     /// `inspect`
@@ -96,6 +98,8 @@ pub enum Request {
     Noise {
         script: Script,
     },
+    /// The samples of a list of frames.
+    SendList,
     /// A line for each frame of a capture, and for the cut that it ends in.
     Receive,
     /// A line for each edge of a capture.

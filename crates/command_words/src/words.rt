@@ -43,6 +43,7 @@ fn read_one(name: &str) -> Option<Command>
     match name {
         "inspect" => Some(Command::Inspect),
         "receive" => Some(Command::Receive),
+        "send-list" => Some(Command::SendList),
         _ => None,
     }
 }

@@ -14,7 +14,7 @@ use Rattle.command_words.proofs.Reading.{one_command}
 use Rattle.command_words.proofs.Asked.{nothing_asked, refused_at}
 use Rattle.command_words.specs.declared.Command.TheVariants as command
 use Rattle.command_words.specs.declared.Request.{Request}
-use Rattle.command_words.specs.declared.Request.TheVariants.{Bits, Decode, DecodeSoft, Send, Receive, Noise, Inspect, Show}
+use Rattle.command_words.specs.declared.Request.TheVariants.{Bits, Decode, DecodeSoft, Send, SendList, Receive, Noise, Inspect, Show}
 use Rattle.command_words.specs.Asking.{AreRefusedFor, AskFor, AskForNothing, command_of}
 use Rattle.command_words.specs.Grammar.{Say}
 use Rattle.command_answers.proofs.Outcomes.{words_are_refused}
@@ -45,6 +45,7 @@ is_receive (Bits rate seed) is = cc
 is_receive (Decode rate octets) is = cc
 is_receive (DecodeSoft rate octets) is = cc
 is_receive (Send rate seed) is = cc
+is_receive SendList is = cc
 is_receive Receive is = refl
 is_receive (Noise items) is = cc
 is_receive Inspect is = cc

@@ -1,7 +1,7 @@
 -- The kinds of refusals: those that words and input decide, the faults of the ports, and want of memory.
 use Rattle.std.proofs.Common.{◌≡◌, ◌⊎◌, inl, inr, refl, subst}
 use Rattle.report_lines.specs.declared.Refusal.{Refusal}
-use Rattle.report_lines.specs.declared.Refusal.TheVariants.{Words, EmptyPsdu, LongPsdu, TornCapture, LongCapture, BadBit, BitCount, NoFrame, CutFrame, ReadFault, WriteFault, NoMemory, BadScript, BadCost, CostCount}
+use Rattle.report_lines.specs.declared.Refusal.TheVariants.{Words, EmptyPsdu, LongPsdu, TornCapture, LongCapture, BadBit, BitCount, NoFrame, CutFrame, ReadFault, WriteFault, NoMemory, BadScript, BadList, LongList, BadCost, CostCount}
 use Rattle.report_lines.specs.declared.Status.TheVariants as status
 use Rattle.report_lines.specs.Refusals.{IsDecided, asking, status_of, step_of}
 
@@ -19,6 +19,8 @@ kinds ReadFault = inr (inl refl)
 kinds WriteFault = inr (inr (inl refl))
 kinds NoMemory = inr (inr (inr refl))
 kinds (BadScript at) = inl tt
+kinds (BadList at) = inl tt
+kinds (LongList samples) = inl tt
 kinds (BadCost at) = inl tt
 kinds (CostCount have need) = inl tt
 
@@ -37,6 +39,8 @@ of_words ReadFault is = cc
 of_words WriteFault is = cc
 of_words NoMemory is = cc
 of_words (BadScript at) is = refl
+of_words (BadList at) is = cc
+of_words (LongList samples) is = cc
 of_words (BadCost at) is = cc
 of_words (CostCount have need) is = cc
 
@@ -55,6 +59,8 @@ of_asking ReadFault is = cc
 of_asking WriteFault is = cc
 of_asking NoMemory is = cc
 of_asking (BadScript at) is = refl
+of_asking (BadList at) is = cc
+of_asking (LongList samples) is = cc
 of_asking (BadCost at) is = cc
 of_asking (CostCount have need) is = cc
 

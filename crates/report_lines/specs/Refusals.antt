@@ -1,7 +1,7 @@
 -- Refusals, statuses and report lines (own).
 use Rattle.std.specs.Prelude.{ℕ, List, [], ◌∷◌, ◌++◌, codes, decimal}
 use Rattle.report_lines.specs.declared.Refusal.{Refusal}
-use Rattle.report_lines.specs.declared.Refusal.TheVariants.{Words, EmptyPsdu, LongPsdu, TornCapture, LongCapture, BadBit, BitCount, NoFrame, CutFrame, ReadFault, WriteFault, NoMemory, BadScript, BadCost, CostCount}
+use Rattle.report_lines.specs.declared.Refusal.TheVariants.{Words, EmptyPsdu, LongPsdu, TornCapture, LongCapture, BadBit, BitCount, NoFrame, CutFrame, ReadFault, WriteFault, NoMemory, BadScript, BadList, LongList, BadCost, CostCount}
 use Rattle.report_lines.specs.declared.Status.{Status}
 use Rattle.report_lines.specs.declared.Status.TheVariants as status
 
@@ -31,6 +31,8 @@ status_of ReadFault = status.ReadFault
 status_of WriteFault = status.WriteFault
 status_of NoMemory = status.NoMemory
 status_of (BadScript at) = status.BadWords
+status_of (BadList at) = status.BadInput
+status_of (LongList samples) = status.BadInput
 status_of (BadCost at) = status.BadInput
 status_of (CostCount have need) = status.BadInput
 
@@ -53,6 +55,8 @@ report_of ReadFault = codes "error 10: read fault"
 report_of WriteFault = codes "error 11: write fault"
 report_of NoMemory = codes "error 12: no memory"
 report_of (BadScript at) = codes "error 13: bad script at " ++ decimal at
+report_of (BadList at) = codes "error 14: no list at " ++ decimal at
+report_of (LongList samples) = codes "error 15: list of " ++ decimal samples ++ codes " samples"
 report_of (BadCost at) = codes "error 16: no cost at " ++ decimal at
 report_of (CostCount have need) =
     codes "error 17: " ++ decimal have ++ codes " costs, need " ++ decimal need
@@ -96,5 +100,7 @@ step_of ReadFault = reading
 step_of WriteFault = writing
 step_of NoMemory = any
 step_of (BadScript at) = asking
+step_of (BadList at) = answering
+step_of (LongList samples) = answering
 step_of (BadCost at) = answering
 step_of (CostCount have need) = answering

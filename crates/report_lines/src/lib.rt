@@ -83,6 +83,10 @@ pub enum Refusal {
     /// The words ask for noise with a text that is no script: it is bad at the place `at`, counted
     /// from 0.
     BadScript { at: usize },
+    /// The text is no list of frames: it is bad at the place `at`, counted from 0.
+    BadList { at: usize },
+    /// The text is a list of so many samples, more than 16777216.
+    LongList { samples: u64 },
     /// The least place of a text of costs, counted from 0, that holds no digit, the final newline
     /// excepted.
     BadCost { at: usize },
@@ -103,6 +107,8 @@ impl Refusal {
             | Refusal::LongCapture
             | Refusal::BadBit { .. }
             | Refusal::BitCount { .. }
+            | Refusal::BadList { .. }
+            | Refusal::LongList { .. }
             | Refusal::BadCost { .. }
             | Refusal::CostCount { .. } => Status::BadInput,
             Refusal::NoFrame => Status::NoFrame,

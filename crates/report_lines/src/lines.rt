@@ -54,14 +54,14 @@ impl Line {
         self.with(buffer.format(number).as_bytes())
     }
 
-    // The line with a place behind it, in decimal.
-    fn with_place(self, place: usize) -> Line
+    // The line with a number of up to 64 bits behind it, in decimal.
+    fn with_long(self, number: u64) -> Line
         requires { length self ≤ 60 }
-        ensures value { result ≡ self ++ decimal place }
+        ensures value { result ≡ self ++ decimal number }
         ensures len { length result ≤ length self + 20 }
     {
         let mut buffer = Buffer::new();
-        self.with(buffer.format(place as u64).as_bytes())
+        self.with(buffer.format(number).as_bytes())
     }
 
     // A line of these bytes.
@@ -89,7 +89,9 @@ pub fn line_of(refusal: &Refusal) -> Line
             .with_number(*bytes)
             .with(b" bytes\n"),
         Refusal::LongCapture => Line::of(b"error 5: input over 67108864 bytes\n"),
-        Refusal::BadBit { at } => Line::of(b"error 6: no bit at ").with_place(*at).with(b"\n"),
+        Refusal::BadBit { at } => Line::of(b"error 6: no bit at ")
+            .with_long(*at as u64)
+            .with(b"\n"),
         Refusal::BitCount { have, need } => Line::of(b"error 7: ")
             .with_number(*have)
             .with(b" bits, need ")
@@ -107,10 +109,16 @@ pub fn line_of(refusal: &Refusal) -> Line
         Refusal::WriteFault => Line::of(b"error 11: write fault\n"),
         Refusal::NoMemory => Line::of(b"error 12: no memory\n"),
         Refusal::BadScript { at } => Line::of(b"error 13: bad script at ")
-            .with_place(*at)
+            .with_long(*at as u64)
             .with(b"\n"),
+        Refusal::BadList { at } => Line::of(b"error 14: no list at ")
+            .with_long(*at as u64)
+            .with(b"\n"),
+        Refusal::LongList { samples } => Line::of(b"error 15: list of ")
+            .with_long(*samples)
+            .with(b" samples\n"),
         Refusal::BadCost { at } => Line::of(b"error 16: no cost at ")
-            .with_place(*at)
+            .with_long(*at as u64)
             .with(b"\n"),
         Refusal::CostCount { have, need } => Line::of(b"error 17: ")
             .with_number(*have)

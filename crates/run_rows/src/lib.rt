@@ -2,6 +2,8 @@
 #![tactic(auto)]
 
 #[cfg(test)]
+mod list_tests;
+#[cfg(test)]
 mod receive_tests;
 #[cfg(test)]
 mod tests;

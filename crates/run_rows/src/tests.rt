@@ -264,6 +264,8 @@ fn refuses_words(rt: HostRuntime) -> Result<(), Fail> {
         "send 6",
         "noise",
         "noise lead 1",
+        "send-list 1",
+        "sendlist",
         "",
     ];
     for line in lines {
@@ -497,6 +499,7 @@ fn reports_a_failing_source(rt: HostRuntime) -> Result<(), Fail> {
         ("bits 6 93", &octets[..3], 1, 4),
         ("send 36 93", &octets[..], 64, 3),
         ("receive", &frame[..], 700, 7),
+        ("send-list", &b"36 93 16 00\n6 1 20 ff\n"[..], 8, 4),
     ] {
         for call in 1..9u64 {
             let mut source = MemSource::open(rt.alloc(), input, most, &[call])?;
@@ -593,6 +596,7 @@ fn refuses_endless_inputs(rt: HostRuntime) -> Result<(), Fail> {
         ("bits 6 93", "error 3: psdu over 4095 octets\n"),
         ("decode 6 1", "error 5: input over 67108864 bytes\n"),
         ("receive", "error 5: input over 67108864 bytes\n"),
+        ("send-list", "error 5: input over 67108864 bytes\n"),
         ("decode-soft 6 1", "error 5: input over 67108864 bytes\n"),
     ];
     for (line, report) in rows {

@@ -8,6 +8,9 @@ returns-in-Decode-clause-refused c = rw c.in-Decode.is c.decoded.ensures.refused
 pub returns-in-DecodeSoft-clause-refused : goal.returns-in-DecodeSoft-clause-refused
 returns-in-DecodeSoft-clause-refused c = rw c.in-DecodeSoft.is c.soft_decoded.ensures.refused
 
+pub returns-in-SendList-clause-refused : goal.returns-in-SendList-clause-refused
+returns-in-SendList-clause-refused c = rw c.in-SendList.is c.listed.ensures.refused
+
 pub returns-in_ok-edges_text-in-Inspect-clause-ok : goal.returns-in_ok-edges_text-in-Inspect-clause-ok
 returns-in_ok-edges_text-in-Inspect-clause-ok c =
     rw c.in-Inspect.is (with_it c.in_ok-edges_text-in-Inspect.field-0.items c.in_ok-edges_text-in-Inspect.ensures refl)
