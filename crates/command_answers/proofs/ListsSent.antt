@@ -2,7 +2,7 @@
 use Rattle.std.proofs.Common.{◌≡◌, ℕ, ◌*◌, ◌%◌, ◌<◌, ◌≤◌, List, [], ◌∷◌, ◌++◌, All, ℤ, pos, FitsSigned, length, map, None, sym, subst, arith}
 use Rattle.std.proofs.lemmas.Int.{fits_signed_from_abs, ints}
 use Rattle.std.proofs.lemmas.List.{length-map}
-use Rattle.std.proofs.lemmas.List.Elements.{All-append, All-cons, All-drop, All-from_get_or, All-head, All-map, All-nil, All-replicate, All-tail, All-weaker}
+use Rattle.std.proofs.lemmas.List.Elements.{All-append, All-cons, All-from_get_or, All-head, All-nil, All-replicate, All-tail}
 use Rattle.std.specs.Int.{w16}
 use Rattle.std.specs.Prelude.{unsigned_abs}
 use Rattle.capture_files.proofs.Bytes.{length-bytes_of_samples, samples_back}
@@ -17,6 +17,7 @@ use Rattle.frames_in_noise.specs.Laws.{IsFrame, SentListIsHeard, heard_of}
 use Rattle.list_texts.specs.Lists.{IsInRange, SaysList}
 use Rattle.list_texts.specs.declared.Entry.{Entry}
 use Rattle.rate_table.specs.declared.Rate.{Rate}
+use Rattle.send_lists.proofs.Samples.{wide_gaps}
 use Rattle.send_lists.specs.Sent.{frames_of_list, item_of, samples_of_list}
 use Rattle.command_words.specs.declared.Request.TheVariants.{Receive, SendList}
 use Rattle.command_answers.specs.InOrder.{passed}
@@ -66,11 +67,7 @@ some_frames before (entry ∷ entries) l = omega arith
 
 heard : SentListIsHeard → (entries : List Entry) (text : List ℕ) → SaysList entries text → AreFindings (samples_of_list entries) (map heard_of (frames_of_list entries)) None
 heard hears entries text says =
-    let items : List Item = map item_of entries in
-    let gaps : All (λ (entry : Entry). 16 ≤ entry.gap) entries = All-weaker IsInRange (λ (entry : Entry). 16 ≤ entry.gap) (λ entry r. r.least_gap) entries says.in_range in
-    hears items (omega (arith, length-map entries item_of, says.some))
-    (All-drop (λ (item : Item). 16 ≤ item.gap) 1 items (All-map (λ (item : Item). 16 ≤ item.gap) item_of entries gaps))
-    (frames_may_be_sent 0 entries says.in_range)
+    hears (map item_of entries) (omega (arith, length-map entries item_of, says.some)) (wide_gaps entries says.in_range) (frames_may_be_sent 0 entries says.in_range)
 
 pub sent_list_received : SentAreWithin → SentListIsHeard → SentListGivesItsFrames
 sent_list_received within hears words back text entries h =

@@ -55,10 +55,12 @@ no_samples = refl
 pub rest_samples : (entries : List Entry) (k : ℕ) (d : Entry) → k < length entries → samples_of_list (drop k entries) ≡ samples_of_list (get_or entries k d ∷ []) ++ samples_of_list (drop (k + 1) entries)
 rest_samples entries k d l = ap samples_of_list (drop_more entries k d l) ∙ append_lists (get_or entries k d ∷ []) (drop (k + 1) entries)
 
+-- the gaps of a list are at least 16
+pub wide_gaps : (entries : List Entry) → All IsInRange entries → All (λ (item : Item). 16 ≤ item.gap) (drop 1 (map item_of entries))
+wide_gaps entries h =
+    let gaps : All (λ (entry : Entry). 16 ≤ entry.gap) entries = All-weaker IsInRange (λ (entry : Entry). 16 ≤ entry.gap) (λ entry r. r.least_gap) entries h in
+    All-drop (λ (item : Item). 16 ≤ item.gap) 1 (map item_of entries) (All-map (λ (item : Item). 16 ≤ item.gap) item_of entries gaps)
+
 -- a list is near its frames
 pub sent_lists_near : SentListIsNear → SentListsAreNear
-sent_lists_near near entries h =
-    let items : List Item = map item_of entries in
-    let gaps : All (λ (entry : Entry). 16 ≤ entry.gap) entries = All-weaker IsInRange (λ (entry : Entry). 16 ≤ entry.gap) (λ entry r. r.least_gap) entries h.in_range in
-    near items (omega (arith, length-map entries item_of, h.some))
-    (All-drop (λ (item : Item). 16 ≤ item.gap) 1 items (All-map (λ (item : Item). 16 ≤ item.gap) item_of entries gaps))
+sent_lists_near near entries h = near (map item_of entries) (omega (arith, length-map entries item_of, h.some)) (wide_gaps entries h.in_range)

@@ -6,13 +6,23 @@ use Rattle.std.proofs.lemmas.List.Elements.{All-head, All-nil, All-push, All-tai
 use Rattle.list_texts.specs.Lists.{IsInRange, IsList, SaysLine, line_text, list_text}
 use Rattle.list_texts.specs.declared.Entry.{Entry}
 use Rattle.list_texts.proofs.Lists.{lines, text_bare, text_of_more}
-use Rattle.send_lists.specs.Reading.{AddsLine, AreRead, AreReadUpTo}
+use Rattle.send_lists.specs.Reading.{AddsLine, AreRead}
 use Rattle.send_lists.specs.Sent.{most_samples, samples_of_list}
 use Rattle.send_lists.proofs.Samples.{count_more, no_samples}
 use Rattle.word_grammar.specs.Marks.{HasNo, IsWordEnd}
 use Rattle.word_grammar.specs.Places.{IsBadAt}
 use Rattle.word_grammar.proofs.Lines.{line_rest}
 use Rattle.word_grammar.proofs.Marks.{whole_at}
+
+-- a text is read up to a place: entries stand there, so many samples are counted, and the entries are kept where they
+-- are not too many
+pub record AreReadUpTo (text : List ℕ) (from : ℕ) (kept : List Entry) (count : ℕ) : Type 0 where
+  pub entries : List Entry
+  pub in_range : All IsInRange entries
+  pub place : from ≡ length (list_text entries)
+  pub whole : text ≡ list_text entries ++ drop from text
+  pub counted : count ≡ length (samples_of_list entries)
+  pub kept_are : count ≤ most_samples → kept ≡ entries
 
 -- a word ends before a mark
 word_end_at : (mark : ℕ) (word rest : List ℕ) → HasNo mark word → IsWordEnd mark (word ++ mark ∷ rest) (length word)

@@ -1,6 +1,6 @@
 -- Lists that are read line by line (own).
-use Rattle.std.specs.Prelude.{ℕ, ◌+◌, ◌≤◌, ◌≡◌, List, [], ◌∷◌, ◌++◌, length, drop, All}
-use Rattle.list_texts.specs.Lists.{IsInRange, SaysList, line_text, list_text}
+use Rattle.std.specs.Prelude.{ℕ, ◌+◌, ◌≤◌, ◌≡◌, List, [], ◌∷◌, ◌++◌, length, drop}
+use Rattle.list_texts.specs.Lists.{IsInRange, SaysList, line_text}
 use Rattle.list_texts.specs.declared.Entry.{Entry}
 use Rattle.send_lists.specs.Sent.{most_samples, samples_of_list}
 
@@ -15,16 +15,6 @@ pub record AddsLine (text : List ℕ) (len : ℕ) (before : List Entry) (count :
   pub counted : more ≡ count + length (samples_of_list (entry ∷ []))
   pub at_most : more ≤ count + 2097152
   pub kept : more ≤ most_samples → after ≡ before ++ entry ∷ []
-
--- a text is read up to a place: entries stand there, so many samples are counted, and the entries are kept where they
--- are not too many
-pub record AreReadUpTo (text : List ℕ) (from : ℕ) (kept : List Entry) (count : ℕ) : Type 0 where
-  pub entries : List Entry
-  pub in_range : All IsInRange entries
-  pub place : from ≡ length (list_text entries)
-  pub whole : text ≡ list_text entries ++ drop from text
-  pub counted : count ≡ length (samples_of_list entries)
-  pub kept_are : count ≤ most_samples → kept ≡ entries
 
 -- a text is read whole: it is a list of so many samples, whose entries are kept where they are not too many
 pub record AreRead (text : List ℕ) (kept : List Entry) (count : ℕ) : Type 0 where

@@ -2,8 +2,7 @@ use Rattle.std.proofs.Common.{◌≡◌, ◌+◌, ◌≤◌, ℕ, List, Err, inl
 use Rattle.std.proofs.lemmas.List.{take_rest}
 use Rattle.list_texts.specs.Lists.{IsList}
 use Rattle.list_texts.specs.declared.Entry.{Entry}
-use Rattle.send_lists.specs.Reading.{AreReadUpTo}
-use Rattle.send_lists.proofs.Texts.{all_read, bad_from, line_read, line_within, none_read}
+use Rattle.send_lists.proofs.Texts.{AreReadUpTo, all_read, bad_from, line_read, line_within, none_read}
 use Rattle.word_grammar.specs.Places.{IsBadAt}
 use Rattle.send_lists.proofs.reading.read_lines.Goals as goal
 

@@ -1,5 +1,5 @@
 use Rattle.std.proofs.Common.{◌≡◌, ◌-◌, ◌*◌, ◌<◌, ◌≤◌, ◌⊎◌, length}
-use Rattle.send_lists.specs.Reading.{AreReadUpTo}
+use Rattle.send_lists.proofs.Texts.{AreReadUpTo}
 use Rattle.send_lists.proofs.reading.read_lines.Given as goal
 
 abbrev pub invariant-loop-len : goal.invariant-loop-len
