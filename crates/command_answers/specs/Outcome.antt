@@ -8,11 +8,11 @@ use Rattle.report_lines.specs.declared.Status.TheVariants as status
 use Rattle.report_lines.specs.Refusals.{status_of}
 use Rattle.command_words.specs.declared.Command.{Command}
 use Rattle.command_words.specs.declared.Request.{Request}
-use Rattle.command_words.specs.declared.Request.TheVariants.{Bits, Decode, DecodeSoft, Send, SendList, Receive, Noise, Inspect, Show}
+use Rattle.command_words.specs.declared.Request.TheVariants.{Bits, Decode, DecodeSoft, Send, SendList, Receive, Noise, Echo, Inspect, Show}
 use Rattle.command_words.specs.declared.Stage.TheVariants.{Kept}
 use Rattle.command_words.specs.Asking.{AreRefusedFor, AskFor, command_of}
 use Rattle.frame_stages.specs.Stages.{stage_text_of}
-use Rattle.command_answers.specs.Answers.{noisy_bytes}
+use Rattle.command_answers.specs.Answers.{echoed_bytes, noisy_bytes}
 use Rattle.command_answers.specs.Receiving.{HasReceived, HasReports}
 use Rattle.command_answers.specs.Decoding.{DecodeOutcome, SoftOutcome}
 use Rattle.command_answers.specs.Listing.{ListOutcome}
@@ -27,6 +27,7 @@ AnswerOf (DecodeSoft rate octets) read outcome = SoftOutcome rate octets read ou
 AnswerOf (Send rate seed) read outcome = outcome ≡ Writes (sent_bytes rate seed read)
 AnswerOf (Noise items) read outcome = outcome ≡ Writes (noisy_bytes items read)
 AnswerOf SendList read outcome = ListOutcome read outcome
+AnswerOf (Echo pairs) read outcome = outcome ≡ Writes (echoed_bytes pairs read)
 AnswerOf Receive read outcome = HasReceived (samples_in read) outcome
 AnswerOf Inspect read outcome = Answers (HasReports (samples_in read)) outcome
 AnswerOf (Show stage rate seed) read outcome = outcome ≡ Writes (stage_text_of stage rate seed read)

@@ -8,6 +8,7 @@ ghost use Rattle.command_answers.specs.Outcome.{AnswerOf};
 ghost use Rattle.command_answers.specs.Receiving.{HasReports};
 ghost use Rattle.command_words.specs.Asking.{command_of};
 ghost use Rattle.command_words.specs.Grammar.{IsInRange};
+ghost use Rattle.echo_taps.specs.Echoes.{echo_of};
 ghost use Rattle.modem_ports.specs.Counts.{Rose};
 ghost use Rattle.modem_ports.specs.Limits.{most_input};
 ghost use Rattle.modem_ports.specs.Told.{Takes, TakesPrefix};
@@ -18,6 +19,7 @@ use crate::decoding::{decoded, soft_decoded};
 use crate::listing::listed;
 use capture_files::{samples_of, write_samples};
 use command_words::{Request, Stage};
+use echo_taps::Taps;
 use finding_lines::reports_text;
 use fixed_complex::Sample;
 use frame_stages::stage_text;
@@ -63,6 +65,7 @@ pub(crate) fn answer_of(
         }
         Request::Noise { script } => Ok(Answer::Samples(noisy_samples(alloc, &script, input)?)),
         Request::SendList => listed(alloc, input),
+        Request::Echo { taps } => Ok(Answer::Samples(echoed_samples(alloc, &taps, input)?)),
         Request::Receive => unreachable!(),
         Request::Inspect => Ok(Answer::Bytes(edges_text(alloc, input, steps)?)),
         Request::Show { stage, rate, seed } => {
@@ -81,6 +84,17 @@ fn noisy_samples(alloc: Global, script: &Script, capture: &[u8]) -> Result<Vec<S
     let mut samples = samples_of(alloc, capture)?;
     script.apply(&mut samples)?;
     Ok(samples)
+}
+
+// The echo of a capture's samples.
+fn echoed_samples(alloc: Global, taps: &Taps, capture: &[u8]) -> Result<Vec<Sample>, AllocError>
+    requires whole { length capture.now % 4 ≡ 0 }
+    requires most { length capture.now ≤ most_input }
+    ensures { IfOk result
+        (λ echo. echo.items ≡ echo_of taps.now (samples_in capture.now)) }
+{
+    let samples = samples_of(alloc, capture)?;
+    taps.apply(alloc, &samples)
 }
 
 // The text of the reports on all edges of a capture.

@@ -10,10 +10,10 @@ use Rattle.rate_table.proofs.ByRate.{by_rate, rate_of_mbps, rate_of_mbps-of}
 use Rattle.rate_table.specs.declared.Rate.{Rate}
 use Rattle.rate_table.specs.Table.{row_of}
 use Rattle.command_words.specs.declared.Command.{Command}
-use Rattle.command_words.specs.declared.Command.TheVariants.{Bits, Decode, DecodeSoft, Send, SendList, Receive, Noise, Inspect, Show}
+use Rattle.command_words.specs.declared.Command.TheVariants.{Bits, Decode, DecodeSoft, Send, SendList, Receive, Noise, Echo, Inspect, Show}
 use Rattle.command_words.specs.declared.Stage.{Stage}
 use Rattle.command_words.specs.declared.Stage.TheVariants.{Scrambled, Coded, Kept, Interleaved, Points, Header, Samples}
-use Rattle.command_words.specs.Grammar.{AreWordsOf, IsFrom, IsInRange, Say, SayNothing, noise_words, rate_word, stage_word}
+use Rattle.command_words.specs.Grammar.{AreWordsOf, IsFrom, IsInRange, Say, SayNothing, echo_words, noise_words, rate_word, stage_word}
 
 -- a fact or its contrary
 abbrev pub Decided : Type 0 → Type 0
@@ -64,7 +64,8 @@ command_in (name ∷ []) =
     cond (bytes_eq name (codes "inspect")) (Some Inspect)
     (cond (bytes_eq name (codes "receive")) (Some Receive)
     (cond (bytes_eq name (codes "send-list")) (Some SendList) None))
-command_in (name ∷ text ∷ []) = cond (bytes_eq name (codes "noise")) (Some Noise) None
+command_in (name ∷ text ∷ []) =
+    cond (bytes_eq name (codes "noise")) (Some Noise) (cond (bytes_eq name (codes "echo")) (Some Echo) None)
 command_in (name ∷ a ∷ b ∷ []) =
     cond (bytes_eq name (codes "bits")) (Some (Bits (rate_in a) (number_in b)))
     (cond (bytes_eq name (codes "decode")) (Some (Decode (rate_in a) (number_in b)))
@@ -81,6 +82,7 @@ reads_back words (DecodeSoft rate octets) range are = rw (are, rate_back rate, n
 reads_back words (Send rate seed) range are = rw (are, rate_back rate, number_back seed (omega (arith, range.1))) refl
 reads_back words Noise range (text, are) = rw are refl
 reads_back words SendList range are = rw are refl
+reads_back words Echo range (text, are) = rw are refl
 reads_back words Receive range are = rw are refl
 reads_back words Inspect range are = rw are refl
 reads_back words (Show stage rate seed) range are = rw (are, stage_back stage, rate_back rate, number_back seed (omega (arith, range.1))) refl
@@ -109,6 +111,7 @@ range_decided (DecodeSoft rate octets) = from_decided 1 4095 octets
 range_decided (Send rate seed) = from_decided 1 127 seed
 range_decided Noise = inl tt
 range_decided SendList = inl tt
+range_decided Echo = inl tt
 range_decided Receive = inl tt
 range_decided Inspect = inl tt
 range_decided (Show stage rate seed) = from_decided 1 127 seed
@@ -126,17 +129,17 @@ pub text_in : List (List ℕ) → List ℕ
 text_in (name ∷ text ∷ []) = text
 text_in words = []
 
--- words that ask for noise ask for it by that text
-pub same_text : (words : List (List ℕ)) (text : List ℕ) → words ≡ noise_words text → text_in words ≡ text
+-- words that ask by a text ask by that one
+pub same_text : (name : List ℕ) (words : List (List ℕ)) (text : List ℕ) → words ≡ name ∷ text ∷ [] → text_in words ≡ text
 unfolding text_in
-same_text words text are = ap text_in are
+same_text name words text are = ap text_in are
 
 -- words are a command's, or not
-noise_decided : (words : List (List ℕ)) → Decided (AreWordsOf Noise words)
-noise_decided words =
-    elim (same_words words (noise_words (text_in words))) [
+text_decided : (name : List ℕ) (words : List (List ℕ)) → Decided ((text : List ℕ) × (words ≡ name ∷ text ∷ []))
+text_decided name words =
+    elim (same_words words (name ∷ text_in words ∷ [])) [
       | inl same ↦ inl (text_in words, same)
-      | inr differ ↦ inr (λ are. differ (are.1 ∙ ap noise_words (sym (same_text words are.0 are.1))))
+      | inr differ ↦ inr (λ are. differ (are.1 ∙ ap (λ text. name ∷ text ∷ []) (sym (same_text name words are.0 are.1))))
     ]
 
 words_decided : (words : List (List ℕ)) (command : Command) → Decided (AreWordsOf command words)
@@ -144,8 +147,9 @@ words_decided words (Bits rate seed) = same_words words _
 words_decided words (Decode rate octets) = same_words words _
 words_decided words (DecodeSoft rate octets) = same_words words _
 words_decided words (Send rate seed) = same_words words _
-words_decided words Noise = noise_decided words
 words_decided words SendList = same_words words _
+words_decided words Noise = text_decided (codes "noise") words
+words_decided words Echo = text_decided (codes "echo") words
 words_decided words Receive = same_words words _
 words_decided words Inspect = same_words words _
 words_decided words (Show stage rate seed) = same_words words _

@@ -9,7 +9,7 @@ use Rattle.ofdm_scrambler.specs.Sequence.{IsSeed}
 use Rattle.command_words.specs.declared.Stage.{Stage}
 use Rattle.command_words.specs.declared.Stage.TheVariants.{Scrambled, Coded, Kept, Interleaved, Points, Header, Samples}
 use Rattle.command_words.specs.declared.Command.{Command}
-use Rattle.command_words.specs.declared.Command.TheVariants.{Bits, Decode, DecodeSoft, Send, SendList, Receive, Noise, Inspect, Show}
+use Rattle.command_words.specs.declared.Command.TheVariants.{Bits, Decode, DecodeSoft, Send, SendList, Receive, Noise, Echo, Inspect, Show}
 
 -- the texts of the words of the command line
 abbrev pub texts_of : Vec (String Global) Global → List (List ℕ)
@@ -33,7 +33,11 @@ stage_word Samples = codes "samples"
 abbrev pub noise_words : List ℕ → List (List ℕ)
 noise_words text = codes "noise" ∷ text ∷ []
 
--- the words are a command's, its name first; behind `noise` any one word stands
+-- and for an echo
+abbrev pub echo_words : List ℕ → List (List ℕ)
+echo_words text = codes "echo" ∷ text ∷ []
+
+-- the words are a command's, its name first; behind `noise` and behind `echo` any one word stands
 abbrev pub AreWordsOf : Command → List (List ℕ) → Type 0
 AreWordsOf (Bits rate seed) words = words ≡ codes "bits" ∷ rate_word rate ∷ decimal seed ∷ []
 AreWordsOf (Decode rate octets) words =
@@ -43,6 +47,7 @@ AreWordsOf (DecodeSoft rate octets) words =
 AreWordsOf (Send rate seed) words = words ≡ codes "send" ∷ rate_word rate ∷ decimal seed ∷ []
 AreWordsOf Noise words = (text : List ℕ) × (words ≡ noise_words text)
 AreWordsOf SendList words = words ≡ codes "send-list" ∷ []
+AreWordsOf Echo words = (text : List ℕ) × (words ≡ echo_words text)
 AreWordsOf Receive words = words ≡ codes "receive" ∷ []
 AreWordsOf Inspect words = words ≡ codes "inspect" ∷ []
 AreWordsOf (Show stage rate seed) words =
@@ -56,6 +61,7 @@ IsInRange (DecodeSoft rate octets) = IsLength octets
 IsInRange (Send rate seed) = IsSeed seed
 IsInRange Noise = Unit {0}
 IsInRange SendList = Unit {0}
+IsInRange Echo = Unit {0}
 IsInRange Receive = Unit {0}
 IsInRange Inspect = Unit {0}
 IsInRange (Show stage rate seed) = IsSeed seed

@@ -2,6 +2,7 @@
 //! memory.
 #![tactic(auto)]
 
+use echo_taps::Taps;
 use noise_script::Script;
 use ofdm_scrambler::Seed;
 use rate_table::Rate;
@@ -59,6 +60,8 @@ pub enum Command {
     Noise,
     /// `send-list`
     SendList,
+    /// `echo TAPS`, whatever the text is that stands for the taps.
+    Echo,
     /// `receive`
     Receive,
     /// `inspect`
@@ -100,6 +103,10 @@ pub enum Request {
     },
     /// The samples of a list of frames.
     SendList,
+    /// The echo of a capture's samples.
+    Echo {
+        taps: Taps,
+    },
     /// A line for each frame of a capture, and for the cut that it ends in.
     Receive,
     /// A line for each edge of a capture.

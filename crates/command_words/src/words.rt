@@ -8,7 +8,7 @@ use crate::{Command, Stage};
 /// The command that the words say, without the program's name (own): None exactly where they say
 /// none. RATE is a number of megabits a second, 6 to 54 by the table of the rates, SEED is from 1 to
 /// 127 and LENGTH from 1 to 4095, all in decimal digits with no sign and no leading zero; SCRIPT is any
-/// one word, which `read_request` reads; a stage is `scrambled`, `coded`, `kept`, `interleaved`,
+/// one word, which `read_request` reads, and so is TAPS; a stage is `scrambled`, `coded`, `kept`, `interleaved`,
 /// `points`, `header` or `samples`. Takes no memory.
 pub fn read_words(words: &Vec<String>) -> Option<Command>
     ensures command { IfSome result (Say (texts_of words.now)) }
@@ -55,6 +55,7 @@ fn read_two(name: &str, _text: &str) -> Option<Command>
 {
     match name {
         "noise" => Some(Command::Noise),
+        "echo" => Some(Command::Echo),
         _ => None,
     }
 }

@@ -14,7 +14,7 @@ use Rattle.command_words.proofs.Reading.{one_command}
 use Rattle.command_words.proofs.Asked.{nothing_asked, refused_at}
 use Rattle.command_words.specs.declared.Command.TheVariants as command
 use Rattle.command_words.specs.declared.Request.{Request}
-use Rattle.command_words.specs.declared.Request.TheVariants.{Bits, Decode, DecodeSoft, Send, SendList, Receive, Noise, Inspect, Show}
+use Rattle.command_words.specs.declared.Request.TheVariants.{Bits, Decode, DecodeSoft, Send, SendList, Receive, Noise, Echo, Inspect, Show}
 use Rattle.command_words.specs.Asking.{AreRefusedFor, AskFor, AskForNothing, command_of}
 use Rattle.command_words.specs.Grammar.{Say}
 use Rattle.command_answers.proofs.Outcomes.{words_are_refused}
@@ -48,6 +48,7 @@ is_receive (Send rate seed) is = cc
 is_receive SendList is = cc
 is_receive Receive is = refl
 is_receive (Noise items) is = cc
+is_receive (Echo pairs) is = cc
 is_receive Inspect is = cc
 is_receive (Show stage rate seed) is = cc
 
@@ -85,6 +86,17 @@ reads_nothing words refusal kind left faults why =
       fault = λ is. cc;
       fault_within = λ is. cc;
     }
+
+-- .. and what was read for an answer that was not written whole
+pub reads_unwritten : (kind : Reading) (before after : Option (List ℕ)) (faults faults' : ℕ) → Reads kind before after faults faults' None → Reads kind before after faults faults' (Some WriteFault)
+reads_unwritten kind before after faults faults' has = record {
+  end = λ past to_end. has.end tt to_end;
+  at_most = has.at_most;
+  to_limit = λ is. cc;
+  to_input_limit = λ is. cc;
+  fault = λ is. cc;
+  fault_within = λ is. cc;
+}
 
 -- the status of bad words comes exactly where they are refused
 pub bad_words : (words : List (List ℕ)) (refusal : Refusal) → (step_of refusal ≡ asking → AreRefusedFor words refusal) → (AskForNothing words → step_of refusal ≡ asking)

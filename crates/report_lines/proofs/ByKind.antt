@@ -1,7 +1,7 @@
 -- The kinds of refusals: those that words and input decide, the faults of the ports, and want of memory.
 use Rattle.std.proofs.Common.{◌≡◌, ◌⊎◌, inl, inr, refl, subst}
 use Rattle.report_lines.specs.declared.Refusal.{Refusal}
-use Rattle.report_lines.specs.declared.Refusal.TheVariants.{Words, EmptyPsdu, LongPsdu, TornCapture, LongCapture, BadBit, BitCount, NoFrame, CutFrame, ReadFault, WriteFault, NoMemory, BadScript, BadList, LongList, BadCost, CostCount}
+use Rattle.report_lines.specs.declared.Refusal.TheVariants.{Words, EmptyPsdu, LongPsdu, TornCapture, LongCapture, BadBit, BitCount, NoFrame, CutFrame, ReadFault, WriteFault, NoMemory, BadScript, BadList, LongList, BadCost, CostCount, BadTaps}
 use Rattle.report_lines.specs.declared.Status.TheVariants as status
 use Rattle.report_lines.specs.Refusals.{IsDecided, asking, status_of, step_of}
 
@@ -23,6 +23,7 @@ kinds (BadList at) = inl tt
 kinds (LongList samples) = inl tt
 kinds (BadCost at) = inl tt
 kinds (CostCount have need) = inl tt
+kinds (BadTaps at) = inl tt
 
 -- the status of bad words is that of the refusals of words alone
 pub of_words : (refusal : Refusal) → status_of refusal ≡ status.BadWords → step_of refusal ≡ asking
@@ -43,6 +44,7 @@ of_words (BadList at) is = cc
 of_words (LongList samples) is = cc
 of_words (BadCost at) is = cc
 of_words (CostCount have need) is = cc
+of_words (BadTaps at) is = refl
 
 -- .. and the refusals of words have no other
 pub of_asking : (refusal : Refusal) → step_of refusal ≡ asking → status_of refusal ≡ status.BadWords
@@ -63,6 +65,7 @@ of_asking (BadList at) is = cc
 of_asking (LongList samples) is = cc
 of_asking (BadCost at) is = cc
 of_asking (CostCount have need) is = cc
+of_asking (BadTaps at) is = refl
 
 -- no refusal has the status of a run that answered
 pub no_refusal_is_ok : (refusal : Refusal) → status_of refusal ≡ status.Ok → ⊥

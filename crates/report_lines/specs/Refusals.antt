@@ -1,7 +1,7 @@
 -- Refusals, statuses and report lines (own).
 use Rattle.std.specs.Prelude.{ℕ, List, [], ◌∷◌, ◌++◌, codes, decimal}
 use Rattle.report_lines.specs.declared.Refusal.{Refusal}
-use Rattle.report_lines.specs.declared.Refusal.TheVariants.{Words, EmptyPsdu, LongPsdu, TornCapture, LongCapture, BadBit, BitCount, NoFrame, CutFrame, ReadFault, WriteFault, NoMemory, BadScript, BadList, LongList, BadCost, CostCount}
+use Rattle.report_lines.specs.declared.Refusal.TheVariants.{Words, EmptyPsdu, LongPsdu, TornCapture, LongCapture, BadBit, BitCount, NoFrame, CutFrame, ReadFault, WriteFault, NoMemory, BadScript, BadList, LongList, BadCost, CostCount, BadTaps}
 use Rattle.report_lines.specs.declared.Status.{Status}
 use Rattle.report_lines.specs.declared.Status.TheVariants as status
 
@@ -35,6 +35,7 @@ status_of (BadList at) = status.BadInput
 status_of (LongList samples) = status.BadInput
 status_of (BadCost at) = status.BadInput
 status_of (CostCount have need) = status.BadInput
+status_of (BadTaps at) = status.BadWords
 
 -- the report line of a refusal, without its newline
 abbrev pub report_of : Refusal → List ℕ
@@ -60,6 +61,7 @@ report_of (LongList samples) = codes "error 15: list of " ++ decimal samples ++ 
 report_of (BadCost at) = codes "error 16: no cost at " ++ decimal at
 report_of (CostCount have need) =
     codes "error 17: " ++ decimal have ++ codes " costs, need " ++ decimal need
+report_of (BadTaps at) = codes "error 20: bad taps at " ++ decimal at
 
 -- the report line: a newline ends it
 abbrev pub report_line : Refusal → List ℕ
@@ -104,3 +106,4 @@ step_of (BadList at) = answering
 step_of (LongList samples) = answering
 step_of (BadCost at) = answering
 step_of (CostCount have need) = answering
+step_of (BadTaps at) = asking

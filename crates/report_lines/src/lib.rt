@@ -92,6 +92,9 @@ pub enum Refusal {
     BadCost { at: usize },
     /// The text has `have` costs, and the words ask for another number, `need`.
     CostCount { have: u32, need: u32 },
+    /// The words ask for an echo by a text that is none of taps: it is bad at the place `at`, counted
+    /// from 0.
+    BadTaps { at: usize },
 }
 
 impl Refusal {
@@ -100,7 +103,7 @@ impl Refusal {
         ensures { result ≡ status_of self }
     {
         match self {
-            Refusal::Words | Refusal::BadScript { .. } => Status::BadWords,
+            Refusal::Words | Refusal::BadScript { .. } | Refusal::BadTaps { .. } => Status::BadWords,
             Refusal::EmptyPsdu
             | Refusal::LongPsdu
             | Refusal::TornCapture { .. }

@@ -125,5 +125,8 @@ pub fn line_of(refusal: &Refusal) -> Line
             .with(b" costs, need ")
             .with_number(*need)
             .with(b"\n"),
+        Refusal::BadTaps { at } => Line::of(b"error 20: bad taps at ")
+            .with_long(*at as u64)
+            .with(b"\n"),
     }
 }

@@ -309,7 +309,12 @@ fn refuses_inputs(rt: HostRuntime) -> Result<(), Fail> {
 
 // The command line is `noise` and one word more, which may be empty or have spaces.
 fn check_noise(rt: &impl Abort, alloc: Global, row: &Row) -> Result<(), AllocError> {
-    let mut words = words_of(alloc, "noise")?;
+    check_text(rt, alloc, "noise", row)
+}
+
+// The same behind another command.
+fn check_text(rt: &impl Abort, alloc: Global, command: &str, row: &Row) -> Result<(), AllocError> {
+    let mut words = words_of(alloc, command)?;
     words.push(String::from_str(alloc, row.line)?)?;
     let mut source = MemSource::open(alloc, row.input, 1000, &[])?;
     let mut out = MemSink::open(alloc, ROOM, 4096, &[])?;
@@ -382,6 +387,63 @@ fn refuses_scripts(rt: HostRuntime) -> Result<(), Fail> {
             )?;
         }
     }
+    Ok(())
+}
+
+// The numbers are those of the definition, worked by hand.
+#[test]
+fn echoes_of_captures(rt: HostRuntime) -> Result<(), Fail> {
+    let rows: [(&str, &[u8], Out); 3] = [
+        ("1 256 0", b"", Out::Parts(28, &[(0, &[0; 28])])),
+        (
+            "3 200 -50",
+            &[0xE8, 0x03, 0, 0],
+            Out::Parts(
+                32,
+                &[(0, &[0xE8, 0x03, 0, 0]), (12, &[0xC3, 0, 0xCF, 0xFF])],
+            ),
+        ),
+        (
+            "1 256 0",
+            &[0xFF, 0x7F, 0, 0x80, 0xFF, 0x7F, 0, 0x80],
+            Out::Parts(36, &[(4, &[0xFF, 0x7F, 0, 0x80, 0, 0x20, 0, 0xE0])]),
+        ),
+    ];
+    for (taps, input, out) in rows {
+        check_text(&rt, rt.alloc(), "echo", &answers(taps, input, out))?;
+    }
+    Ok(())
+}
+
+// Bad taps are refused whatever the input holds.
+#[test]
+fn refuses_taps(rt: HostRuntime) -> Result<(), Fail> {
+    let rows = [
+        ("", "error 20: bad taps at 0\n"),
+        ("1 257 0", "error 20: bad taps at 4\n"),
+        ("2 1 0; 1 1 0", "error 20: bad taps at 7\n"),
+        ("1 256 -1", "error 20: bad taps at 6\n"),
+        ("7 1 0; ", "error 20: bad taps at 5\n"),
+    ];
+    for (taps, report) in rows {
+        check_text(
+            &rt,
+            rt.alloc(),
+            "echo",
+            &refused(taps, b"modem", Status::BadWords, report),
+        )?;
+    }
+    check_text(
+        &rt,
+        rt.alloc(),
+        "echo",
+        &refused(
+            "1 1 0",
+            b"modem",
+            Status::BadInput,
+            "error 4: capture ends after 5 bytes\n",
+        ),
+    )?;
     Ok(())
 }
 

@@ -5,7 +5,7 @@ use Rattle.command_answers.specs.Answers.{bytes_of_answer}
 use Rattle.command_answers.specs.Inputs.{reads}
 use Rattle.command_words.specs.Asking.{command_of}
 use Rattle.command_words.specs.Grammar.{texts_of}
-use Rattle.modem_runs.proofs.Refused.{reads_nothing, reads_of_said, receive_asked}
+use Rattle.modem_runs.proofs.Refused.{reads_nothing, reads_of_said, reads_unwritten, receive_asked}
 use Rattle.modem_runs.proofs.Written.{takes_answer, takes_answer_prefix}
 use Rattle.modem_runs.proofs.execute.Goals as goal
 
@@ -49,3 +49,12 @@ pub returns-clause-in_part : goal.returns-clause-in_part
 returns-clause-in_part g c = λ is.
     takes_answer_prefix (texts_of c.args.words.now) (g.S.Source.left c.args.source.now) (bytes_of_answer c.in_ok-answer.answer) _ _
     (request_outcome (texts_of c.args.words.now) (g.S.Source.left c.args.source.now) c.in_ok-request.request _ c.in_ok-request.ensures.request c.in_ok-answer.ensures.ok) c.in-Err.ensures.prefix
+
+pub returns-clause-reads : goal.returns-clause-reads
+returns-clause-reads g c = λ command says.
+    let kind = reads (command_of c.in_ok-request.request) in
+    reads_of_said (texts_of c.args.words.now) c.in_ok-request.request command kind _ _ _ _ _ refl c.in_ok-request.ensures.request says (reads_unwritten kind _ _ _ _ c.in_ok-answer.ensures.reads)
+
+pub returns-in-Ok-clause-reads : goal.returns-in-Ok-clause-reads
+returns-in-Ok-clause-reads g c = λ command says.
+    reads_of_said (texts_of c.args.words.now) c.in_ok-request.request command (reads (command_of c.in_ok-request.request)) _ _ _ _ _ refl c.in_ok-request.ensures.request says c.in_ok-answer.ensures.reads
