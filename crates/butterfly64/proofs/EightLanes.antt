@@ -44,7 +44,7 @@ parted_at-local k below x y h l lt =
     rw (low, high)
 
 -- what holds of eight lanes, lane by lane
-at_eight : (P : ℕ → Type 0) → P 0 → P 1 → P 2 → P 3 → P 4 → P 5 → P 6 → P 7 → (l : ℕ) → l < 8 → P l
+pub at_eight : (P : ℕ → Type 0) → P 0 → P 1 → P 2 → P 3 → P 4 → P 5 → P 6 → P 7 → (l : ℕ) → l < 8 → P l
 at_eight P a b c d e f g h zero lt = a
 at_eight P a b c d e f g h (suc zero) lt = b
 at_eight P a b c d e f g h (suc (suc zero)) lt = c

@@ -4,6 +4,11 @@ pub mod Halves
 pub mod InPlace
 pub mod SumSizes
 pub mod LaneOps
+pub mod RowLanes
+pub mod JoinStages
+pub mod RowPlaces
+pub mod RowStages
+pub mod PartStages
 pub mod EightLanes
 pub mod PairsOfEights
 pub mod UpBudget

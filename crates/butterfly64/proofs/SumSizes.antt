@@ -31,3 +31,13 @@ within-up_sums xs w = components _ (size-up_sums xs (2 ^ 31) (omega arith) (of_s
 
 pub within-down_sums : (xs : List Cx) → PairsWithin (2 ^ 30) xs → PairsWithin (2 ^ 40 - 1) (down_sums xs)
 within-down_sums xs w = components _ (size-down_sums xs (2 ^ 31) (omega arith) (of_size-within xs w))
+
+-- words hold the sums of pairs of at most 2^24
+words : (ys : List Cx) → PairsOfSize (65 * 2 ^ 24 + 256) ys → PairsWithin (2 ^ 31 - 1) ys
+words ys s = record { each = λ n lt. within-size (2 ^ 31 - 1) (entry ys n) (wider (65 * 2 ^ 24 + 256) (2 ^ 31 - 1) _ (omega arith) (s.each n lt)) }
+
+pub words-up_sums : (xs : List Cx) → PairsOfSize (2 ^ 24) xs → PairsWithin (2 ^ 31 - 1) (up_sums xs)
+words-up_sums xs sizes = words _ (size-up_sums xs (2 ^ 24) (omega arith) sizes)
+
+pub words-down_sums : (xs : List Cx) → PairsOfSize (2 ^ 24) xs → PairsWithin (2 ^ 31 - 1) (down_sums xs)
+words-down_sums xs sizes = words _ (size-down_sums xs (2 ^ 24) (omega arith) sizes)

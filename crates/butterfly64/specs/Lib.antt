@@ -3,3 +3,4 @@ pub mod PlainSums
 pub mod MirrorOrder
 pub mod Budgets
 pub mod Lanes
+pub mod Rows

@@ -90,7 +90,7 @@ fn minus_lanes(x: &Eight, y: &Eight) -> Eight
 
 // The products of eight and eight pairs over 2^20, rounded half up.
 #[inline(always)]
-fn scaled_lanes(w: &Eight, z: &Eight) -> Eight
+pub(crate) fn scaled_lanes(w: &Eight, z: &Eight) -> Eight
     requires w { EachWithin (2 ^ 20) w.now }
     requires z { EachWithin (2 ^ 40) z.now }
     ensures value { (l : ℕ) → l < 8 → lane result l ≡ scaled_product (lane w.now l) (lane z.now l) }
@@ -121,7 +121,7 @@ pub(crate) fn joined_lanes(even: &Eight, odd: &Eight, turns: &Eight) -> (Eight, 
 
 // The products of eight pairs with the conjugates of eight others, over 2^20, rounded half up.
 #[inline(always)]
-fn scaled_back_lanes(w: &Eight, z: &Eight) -> Eight
+pub(crate) fn scaled_back_lanes(w: &Eight, z: &Eight) -> Eight
     requires w { EachWithin (2 ^ 20) w.now }
     requires z { EachWithin (2 ^ 40) z.now }
     ensures value { (l : ℕ) → l < 8

@@ -9,6 +9,7 @@ ghost use Rattle.fixed_complex.specs.PairLists.{entry, PairsWithin, PairsOfSize}
 ghost use Rattle.butterfly64.specs.MirrorOrder.{mirror_of};
 
 use crate::many_eights::{down_eights, eights, pairs, up_eights};
+use crate::stages::{join_rows, part_rows, row_pairs, rows};
 use fixed_complex::{Cx, add, conj, scaled, sub, turn};
 
 mod eights;
@@ -16,6 +17,9 @@ mod lane_turns;
 mod lanes;
 pub mod laws;
 mod many_eights;
+mod row_turns;
+mod rows;
+mod stages;
 
 /// The staged sums `up` of 64 pairs whose components are at most 2^30 in size: at place n about the sum over c of
 /// x(c) * T[c*n] / 2^20, rounded at each of six joins (own). Works in lanes. Takes no memory.
@@ -30,6 +34,23 @@ pub fn up(x: &[Cx; 64]) -> [Cx; 64]
     pairs(&sums)
 }
 
+/// The same as `up`, of 64 pairs that are at most 2^24 in size. Works in lanes of 32 bits. Takes no memory.
+pub fn up_words(x: &[Cx; 64]) -> [Cx; 64]
+    requires { PairsOfSize (2 ^ 24) x.now }
+    ensures sums { result ≡ up_sums x.now }
+    ensures within { PairsWithin (2 ^ 31 - 1) result }
+{
+    let mut even = rows(x);
+    let mut odd = even;
+    join_rows(&even, &mut odd, 0);
+    join_rows(&odd, &mut even, 1);
+    join_rows(&even, &mut odd, 2);
+    join_rows(&odd, &mut even, 3);
+    join_rows(&even, &mut odd, 4);
+    join_rows(&odd, &mut even, 5);
+    row_pairs(&even)
+}
+
 /// The staged sums `down` of 64 pairs whose components are at most 2^30 in size: at place c about the sum over n of
 /// x(n) * conj T[c*n] / 2^20, rounded at each of six joins (own). Works in lanes. Takes no memory.
 pub fn down(x: &[Cx; 64]) -> [Cx; 64]
@@ -41,6 +62,23 @@ pub fn down(x: &[Cx; 64]) -> [Cx; 64]
     let mut sums = eights(x);
     down_eights(&mut sums, 3);
     in_mirror_order(&pairs(&sums))
+}
+
+/// The same as `down`, of 64 pairs that are at most 2^24 in size. Works in lanes of 32 bits. Takes no memory.
+pub fn down_words(x: &[Cx; 64]) -> [Cx; 64]
+    requires { PairsOfSize (2 ^ 24) x.now }
+    ensures sums { result ≡ down_sums x.now }
+    ensures within { PairsWithin (2 ^ 31 - 1) result }
+{
+    let mut even = rows(x);
+    let mut odd = even;
+    part_rows(&even, &mut odd, 0);
+    part_rows(&odd, &mut even, 1);
+    part_rows(&even, &mut odd, 2);
+    part_rows(&odd, &mut even, 3);
+    part_rows(&even, &mut odd, 4);
+    part_rows(&odd, &mut even, 5);
+    row_pairs(&even)
 }
 
 /// The same as `up`, pair by pair without lanes. Takes no memory.

@@ -1,6 +1,6 @@
 //! The transform in lanes beside the one without, and beside sums that were computed elsewhere.
 ghost use Rattle.std.specs.Prelude.{◌^◌, ◌<◌, ◌≤◌, unsigned_abs};
-ghost use Rattle.fixed_complex.specs.PairLists.{PairsWithin};
+ghost use Rattle.fixed_complex.specs.PairLists.{PairsOfSize, PairsWithin};
 
 use super::*;
 
@@ -36,6 +36,58 @@ fn spread(n: usize) -> i64
     ensures { unsigned_abs result ≤ 2 ^ 30 }
 {
     ((n % 65536) as i64 - 32768) * 32768
+}
+
+// One entry as large as words take it, and zeros.
+fn small_entry(place: usize) -> [Cx; 64]
+    requires { place < 64 }
+    ensures within { PairsWithin (2 ^ 30) result }
+    ensures sizes { PairsOfSize (2 ^ 24) result }
+{
+    let mut x = [Cx { re: 0, im: 0 }; 64];
+    x[place] = Cx {
+        re: 8388608,
+        im: -8388607,
+    };
+    x
+}
+
+// Entries spread from -2^23 to 2^23.
+fn small_entries() -> [Cx; 64]
+    ensures within { PairsWithin (2 ^ 30) result }
+    ensures sizes { PairsOfSize (2 ^ 24) result }
+{
+    let mut x = [Cx { re: 0, im: 0 }; 64];
+    for n in 0..64usize {
+        x[n] = Cx {
+            re: small(n * 7919),
+            im: small(n * n * 10007),
+        };
+    }
+    x
+}
+
+// A number from -2^23 to 2^23.
+fn small(n: usize) -> i64
+    ensures { unsigned_abs result ≤ 2 ^ 23 }
+{
+    ((n % 65536) as i64 - 32768) * 256
+}
+
+#[test]
+fn words_and_pairs_agree(rt: HostRuntime) {
+    for place in 0..64 {
+        let x = small_entry(place);
+        assert!(rt; up_words(&x) == up_scalar(&x));
+        assert!(rt; down_words(&x) == down_scalar(&x));
+    }
+}
+
+#[test]
+fn words_of_the_greatest_sizes(rt: HostRuntime) {
+    let x = small_entries();
+    assert!(rt; up_words(&x) == up_scalar(&x));
+    assert!(rt; down_words(&x) == down_scalar(&x));
 }
 
 #[test]

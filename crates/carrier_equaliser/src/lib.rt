@@ -9,7 +9,7 @@ ghost use Rattle.modem_ports.specs.Counts.{raised_by};
 ghost use Rattle.carrier_equaliser.specs.Received.{pair_at, received};
 ghost use Rattle.carrier_equaliser.specs.Nearness.{AreNearPlainSums};
 
-use butterfly64::down;
+use butterfly64::down_words;
 use fixed_complex::{Cx, Sample};
 use modem_ports::Steps;
 
@@ -36,7 +36,7 @@ pub fn carriers_of(body: &[Sample; 64], steps: &mut Steps) -> [Cx; 64]
 {
     butterfly64::laws::received_carriers();
     steps.tick();
-    let sums = down(&by_256(body));
+    let sums = down_words(&by_256(body));
     let mut carriers = [ZERO; 64];
     for bin in 0..64 {
         carriers[bin] = over_2_8(sums[bin]);
@@ -48,7 +48,7 @@ pub fn carriers_of(body: &[Sample; 64], steps: &mut Steps) -> [Cx; 64]
 fn by_256(samples: &[Sample; 64]) -> [Cx; 64]
     ensures pairs { (n : ℕ) → n < 64 → entry result n ≡ by_256 (pair_at samples.now) n }
     ensures of_16_bits { (n : ℕ) → IsWithin (2 ^ 15) (pair_at samples.now n) }
-    ensures within { PairsWithin (2 ^ 30) result }
+    ensures sizes { PairsOfSize (2 ^ 24) result }
 {
     let mut enlarged = [ZERO; 64];
     for n in 0..64 {
@@ -61,7 +61,7 @@ fn by_256(samples: &[Sample; 64]) -> [Cx; 64]
 fn times_256(sample: Sample) -> Cx
     ensures pair { result ≡ multiple (pos 256) (pair_of sample) }
     ensures of_16_bits { IsWithin (2 ^ 15) (pair_of sample) }
-    ensures within { IsWithin (2 ^ 30) result }
+    ensures within { IsWithin (2 ^ 23) result }
 {
     Cx {
         re: 256 * i64::from(sample.i),

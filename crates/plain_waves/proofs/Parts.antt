@@ -1,11 +1,12 @@
 -- Numbers and pairs as the code computes them in 64 bits.
-use Rattle.std.proofs.Common.{◌≡◌, ℕ, ◌*◌, ◌^◌, ◌<◌, ◌≤◌, ◌∙◌, ap, arith, w16, w64, to_z, of_z, ℤ, pos, ◌+ℤ◌, ◌-ℤ◌, ◌*ℤ◌, unsigned_abs}
+use Rattle.std.proofs.Common.{◌≡◌, ℕ, ◌+◌, ◌*◌, ◌^◌, ◌<◌, ◌≤◌, ◌∙◌, ap, arith, w16, w64, to_z, of_z, ℤ, pos, ◌+ℤ◌, ◌-ℤ◌, ◌*ℤ◌, unsigned_abs}
 use Rattle.std.proofs.lemmas.Int.{ints}
 use Rattle.integer_laws.specs.Floor.{floor_div}
 use Rattle.integer_laws.proofs.FloorDivision.{rounding_within}
 use Rattle.integer_laws.proofs.Order.{unsigned_abs-product}
 use Rattle.fixed_complex.specs.declared.Cx.{Cx}
-use Rattle.fixed_complex.specs.Pairs.{IsWithin, multiple}
+use Rattle.fixed_complex.specs.Pairs.{IsOfSize, IsWithin, multiple}
+use Rattle.fixed_complex.proofs.PairSizes.{size-within, wider}
 
 -- a number of 16 bits, taken from 64
 held_in_16 : (h : ℤ) → unsigned_abs h ≤ 25057 → to_z w16 (of_z w16 (to_z w64 (of_z w64 h))) ≡ h
@@ -30,5 +31,8 @@ rounded_to_16 v half above least fits =
 pub times_256 : (z : ℤ) → unsigned_abs z ≤ 954 → to_z w64 (of_z w64 (pos 256 *ℤ to_z w64 (of_z w64 z))) ≡ pos 256 *ℤ z
 times_256 z small = omega (arith, ints)
 
-pub by_256_within : (x : Cx) → IsWithin 954 x → IsWithin (2 ^ 30) (multiple (pos 256) x)
+by_256_within : (x : Cx) → IsWithin 954 x → IsWithin (2 ^ 18) (multiple (pos 256) x)
 by_256_within x within = let re = within.re in let im = within.im in record { re = omega (arith, ints); im = omega (arith, ints) }
+
+pub by_256_size : (x : Cx) → IsWithin 954 x → IsOfSize (2 ^ 24) (multiple (pos 256) x)
+by_256_size x within = wider (2 ^ 18 + 2 ^ 18) (2 ^ 24) _ (omega arith) (size-within (2 ^ 18) _ (by_256_within x within))

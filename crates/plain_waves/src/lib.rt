@@ -3,13 +3,13 @@
 #![tactic(auto)]
 
 ghost use Rattle.std.specs.Prelude.{◌≡◌, ℕ, ◌^◌, ◌<◌};
-ghost use Rattle.fixed_complex.specs.PairLists.{PairsWithin, by_256, entry};
+ghost use Rattle.fixed_complex.specs.PairLists.{PairsOfSize, PairsWithin, by_256, entry};
 ghost use Rattle.fixed_complex.specs.Samples.{IsSampleWithin, SamplesWithin};
 ghost use Rattle.plain_waves.specs.Bodies.{all_times, plain_body, plain_sample, sample_of, sent_body};
 ghost use Rattle.plain_waves.specs.Bounds.{FitASample};
 ghost use Rattle.plain_waves.specs.Nearness.{AreNearPlain};
 
-use butterfly64::up;
+use butterfly64::up_words;
 use fixed_complex::{Cx, Sample, add, mul, turn};
 
 pub mod laws;
@@ -28,7 +28,7 @@ pub fn sent_samples(carriers: &[Cx; 64]) -> [Sample; 64]
     ensures near { AreNearPlain 1 result (all_times (plain_body (entry carriers.now))) }
     ensures within { SamplesWithin 25057 result }
 {
-    let sums = up(&by_256(carriers));
+    let sums = up_words(&by_256(carriers));
     let mut samples = [SILENCE; 64];
     for n in 0..64 {
         samples[n] = over_2_9(sums[n]);
@@ -40,7 +40,7 @@ pub fn sent_samples(carriers: &[Cx; 64]) -> [Sample; 64]
 fn by_256(carriers: &[Cx; 64]) -> [Cx; 64]
     requires { PairsWithin 954 carriers.now }
     ensures carriers { (bin : ℕ) → bin < 64 → entry result bin ≡ by_256 (entry carriers.now) bin }
-    ensures within { PairsWithin (2 ^ 30) result }
+    ensures sizes { PairsOfSize (2 ^ 24) result }
 {
     let mut enlarged = *carriers;
     for bin in 0..64 {

@@ -9,5 +9,5 @@ abbrev pub invariant-loop-n : goal.invariant-loop-n
 invariant-loop-n l = record {
   filled : IsFilled zero_pair (by_256 (pair_at l.samples)) 64 l.n l.enlarged;
   of_16_bits : (k : ℕ) → k < l.n → IsWithin (2 ^ 15) (pair_at l.samples k);
-  within : PairsWithin (2 ^ 30) l.enlarged;
+  within : PairsWithin (2 ^ 23) l.enlarged;
 }

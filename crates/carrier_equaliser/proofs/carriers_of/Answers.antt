@@ -19,7 +19,7 @@ carrier_is samples enlarged sums e same bin lt =
 
 pub over_2_8-requires : goal.over_2_8-requires
 over_2_8-requires c =
-    let within = c.down-sums.ensures.within.each c.loop-bin.bin (rw c.down-sums.ensures.sums (omega arith)) in
+    let within = c.down_words-sums.ensures.within.each c.loop-bin.bin (rw c.down_words-sums.ensures.sums (omega arith)) in
     record { re = omega (arith, within.re); im = omega (arith, within.im) }
 
 pub loop-bin-init : goal.loop-bin-init
@@ -30,7 +30,7 @@ loop-bin-preserved c =
     let samples = c.args.body.now in
     let bin = c.loop-bin.bin in
     one_more zero_pair (received_at (pair_at samples)) 64 _ _ _ c.loop-bin.invariant c.loop-bin-test.true
-    (c.over_2_8.ensures ∙ carrier_is samples c.by_256.result c.down-sums.result c.down-sums.ensures.sums c.by_256.ensures.pairs bin c.loop-bin-test.true)
+    (c.over_2_8.ensures ∙ carrier_is samples c.by_256.result c.down_words-sums.result c.down_words-sums.ensures.sums c.by_256.ensures.pairs bin c.loop-bin-test.true)
 
 pub returns-clause-carriers : goal.returns-clause-carriers
 returns-clause-carriers c = all_filled zero_pair (received_at (pair_at c.args.body.now)) 64 _ _ c.loop-bin.invariant (omega arith)

@@ -3,7 +3,7 @@ use Rattle.fixed_complex.specs.Pairs.{zero_pair}
 use Rattle.fixed_complex.specs.PairLists.{by_256, entry}
 use Rattle.fixed_complex.proofs.Pairs.{same_parts}
 use Rattle.integer_laws.proofs.Filled.{none_filled, one_more}
-use Rattle.plain_waves.proofs.Parts.{times_256, by_256_within}
+use Rattle.plain_waves.proofs.Parts.{times_256, by_256_size}
 use Rattle.fixed_complex.proofs.PairLists.{everywhere_within}
 use Rattle.plain_waves.proofs.by_256.Goals as goal
 
@@ -20,9 +20,9 @@ loop-bin-preserved c =
 pub returns-clause-carriers : goal.returns-clause-carriers
 returns-clause-carriers c = λ bin lt. c.loop-bin.invariant.each bin (omega arith)
 
-pub returns-clause-within : goal.returns-clause-within
-returns-clause-within c = record {
+pub returns-clause-sizes : goal.returns-clause-sizes
+returns-clause-sizes c = record {
   each = λ bin lt.
       let below : bin < c.loop-bin.bin = omega (arith, c.loop-bin.invariant.long) in
-      rw (c.loop-bin.invariant.each bin below) (by_256_within _ (everywhere_within 954 c.args.carriers.now c.requires bin));
+      rw (c.loop-bin.invariant.each bin below) (by_256_size _ (everywhere_within 954 c.args.carriers.now c.requires bin));
 }

@@ -19,14 +19,14 @@ pub over_2_9-requires : goal.over_2_9-requires
 over_2_9-requires c =
     let xs = c.args.carriers.now in
     let n = c.loop-n.n in
-    rw (sample_is xs c.by_256.result c.up-sums.result c.up-sums.ensures.sums c.by_256.ensures.carriers n c.loop-n-test.true) (bounded xs c.requires.within c.requires.fits n c.loop-n-test.true)
+    rw (sample_is xs c.by_256.result c.up_words-sums.result c.up_words-sums.ensures.sums c.by_256.ensures.carriers n c.loop-n-test.true) (bounded xs c.requires.within c.requires.fits n c.loop-n-test.true)
 
 pub loop-n-preserved : goal.loop-n-preserved
 loop-n-preserved c =
     let xs = c.args.carriers.now in
     let n = c.loop-n.n in
     one_more _ (sent_body (entry xs)) 64 _ _ _ c.loop-n.invariant c.loop-n-test.true
-    (c.over_2_9.ensures ∙ sample_is xs c.by_256.result c.up-sums.result c.up-sums.ensures.sums c.by_256.ensures.carriers n c.loop-n-test.true)
+    (c.over_2_9.ensures ∙ sample_is xs c.by_256.result c.up_words-sums.result c.up_words-sums.ensures.sums c.by_256.ensures.carriers n c.loop-n-test.true)
 
 pub returns-clause-samples : goal.returns-clause-samples
 returns-clause-samples c = all_filled _ (sent_body (entry c.args.carriers.now)) 64 _ _ c.loop-n.invariant (omega arith)

@@ -1,0 +1,10 @@
+use Rattle.std.proofs.Common.{◌≡◌, ℕ, ◌<◌, length}
+use Rattle.fixed_complex.specs.PairLists.{entry}
+use Rattle.butterfly64.specs.Rows.{place_in}
+use Rattle.butterfly64.proofs.stages.row_pairs.Given as goal
+
+abbrev pub invariant-loop-n : goal.invariant-loop-n
+invariant-loop-n l = record {
+  long : length l.pairs ≡ 64;
+  done : (k : ℕ) → k < l.n → entry l.pairs k ≡ place_in l.x k;
+}

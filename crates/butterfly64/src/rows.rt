@@ -1,0 +1,152 @@
+//! Eight pairs of 32-bit words in lanes.
+ghost use Rattle.std.specs.Prelude.{◌≡◌, ℕ, ◌+◌, ◌-◌, ◌^◌, ◌<◌, length, ◌+ℤ◌, ◌-ℤ◌};
+ghost use Rattle.fixed_complex.specs.Pairs.{conjugate, minus, plus, scaled_product};
+ghost use Rattle.fixed_complex.specs.Numbers.{NumbersWithin, number_at};
+ghost use Rattle.butterfly64.specs.Rows.{RowOfSize, RowOfTurns, row_lane};
+
+use crate::lanes::{Eight, scaled_back_lanes, scaled_lanes};
+use std::simd::prelude::*;
+
+// Eight pairs of words.
+#[derive(Clone, Copy)]
+pub(crate) struct Row {
+    pub(crate) re: [i32; 8],
+    pub(crate) im: [i32; 8],
+}
+
+// The sums and the differences of eight pairs and the turns of eight others.
+#[inline(always)]
+pub(crate) fn joined_row(even: &Row, odd: &Row, turns: &Row) -> (Row, Row)
+    requires even { RowOfSize (2 ^ 30 - 2 ^ 12) even.now }
+    requires odd { RowOfSize (2 ^ 30 - 2 ^ 12) odd.now }
+    requires turns { RowOfTurns turns.now }
+    ensures sums { (l : ℕ) → l < 8 → row_lane result.0 l
+        ≡ plus (row_lane even.now l) (scaled_product (row_lane turns.now l) (row_lane odd.now l)) }
+    ensures differences { (l : ℕ) → l < 8 → row_lane result.1 l
+        ≡ minus (row_lane even.now l) (scaled_product (row_lane turns.now l) (row_lane odd.now l)) }
+{
+    let turned = turned_row(turns, odd);
+    let sums = Row {
+        re: word_sums(even.re, turned.re),
+        im: word_sums(even.im, turned.im),
+    };
+    let differences = Row {
+        re: word_differences(even.re, turned.re),
+        im: word_differences(even.im, turned.im),
+    };
+    (sums, differences)
+}
+
+// The sums of eight and eight pairs, and their differences turned back.
+#[inline(always)]
+pub(crate) fn parted_row(first: &Row, last: &Row, turns: &Row) -> (Row, Row)
+    requires first { RowOfSize (2 ^ 29 + 2 ^ 14) first.now }
+    requires last { RowOfSize (2 ^ 29 + 2 ^ 14) last.now }
+    requires turns { RowOfTurns turns.now }
+    ensures sums { (l : ℕ) → l < 8 → row_lane result.0 l ≡ plus (row_lane first.now l) (row_lane last.now l) }
+    ensures differences { (l : ℕ) → l < 8 → row_lane result.1 l
+        ≡ scaled_product (conjugate (row_lane turns.now l))
+        (minus (row_lane first.now l) (row_lane last.now l)) }
+{
+    let sums = Row {
+        re: word_sums(first.re, last.re),
+        im: word_sums(first.im, last.im),
+    };
+    let differences = Row {
+        re: word_differences(first.re, last.re),
+        im: word_differences(first.im, last.im),
+    };
+    (sums, turned_back_row(turns, &differences))
+}
+
+// The products of eight pairs with the conjugates of eight turns, over 2^20, rounded half up.
+#[inline(always)]
+fn turned_back_row(turns: &Row, x: &Row) -> Row
+    requires turns { RowOfTurns turns.now }
+    requires x { RowOfSize (2 ^ 30 + 2 ^ 15) x.now }
+    ensures { (l : ℕ) → l < 8
+        → row_lane result l ≡ scaled_product (conjugate (row_lane turns.now l)) (row_lane x.now l) }
+{
+    let turned = scaled_back_lanes(
+        &Eight {
+            re: widened(turns.re),
+            im: widened(turns.im),
+        },
+        &Eight {
+            re: widened(x.re),
+            im: widened(x.im),
+        },
+    );
+    Row {
+        re: narrowed(turned.re),
+        im: narrowed(turned.im),
+    }
+}
+
+// The products of eight and eight pairs over 2^20, rounded half up.
+#[inline(always)]
+fn turned_row(turns: &Row, x: &Row) -> Row
+    requires turns { RowOfTurns turns.now }
+    requires x { RowOfSize (2 ^ 30 - 2 ^ 12) x.now }
+    ensures value { (l : ℕ) → l < 8
+        → row_lane result l ≡ scaled_product (row_lane turns.now l) (row_lane x.now l) }
+    ensures re { NumbersWithin (2 ^ 30 - 1) result.re }
+    ensures im { NumbersWithin (2 ^ 30 - 1) result.im }
+{
+    let turned = scaled_lanes(
+        &Eight {
+            re: widened(turns.re),
+            im: widened(turns.im),
+        },
+        &Eight {
+            re: widened(x.re),
+            im: widened(x.im),
+        },
+    );
+    Row {
+        re: narrowed(turned.re),
+        im: narrowed(turned.im),
+    }
+}
+
+// Eight words, wider.
+#[inline(always)]
+fn widened(x: [i32; 8]) -> [i64; 8]
+    requires { NumbersWithin (2 ^ 31 - 1) x }
+    ensures { result ≡ x }
+{
+    i32x8::from_array(x).cast::<i64>().to_array()
+}
+
+// Eight numbers that are words.
+#[inline(always)]
+fn narrowed(x: [i64; 8]) -> [i32; 8]
+    requires { NumbersWithin (2 ^ 31 - 1) x }
+    ensures { result ≡ x }
+{
+    i64x8::from_array(x).cast::<i32>().to_array()
+}
+
+// The sums of eight and eight words.
+#[inline(always)]
+fn word_sums(x: [i32; 8], y: [i32; 8]) -> [i32; 8]
+    requires x { NumbersWithin (2 ^ 30 - 1) x }
+    requires y { NumbersWithin (2 ^ 30 - 1) y }
+    ensures { (l : ℕ) → l < 8 → number_at result l ≡ number_at x l +ℤ number_at y l }
+{
+    i32x8::from_array(x)
+        .strict_add(i32x8::from_array(y))
+        .to_array()
+}
+
+// The differences of eight and eight words.
+#[inline(always)]
+fn word_differences(x: [i32; 8], y: [i32; 8]) -> [i32; 8]
+    requires x { NumbersWithin (2 ^ 30 - 1) x }
+    requires y { NumbersWithin (2 ^ 30 - 1) y }
+    ensures { (l : ℕ) → l < 8 → number_at result l ≡ number_at x l -ℤ number_at y l }
+{
+    i32x8::from_array(x)
+        .strict_sub(i32x8::from_array(y))
+        .to_array()
+}

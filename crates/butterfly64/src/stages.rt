@@ -1,0 +1,188 @@
+//! The six stages of `up` and of `down` over eight rows of words.
+ghost use Rattle.std.specs.Prelude.{◌≡◌, ℕ, ◌+◌, ◌-◌, ◌*◌, ◌/◌, ◌^◌, ◌<◌, ◌≤◌, unsigned_abs};
+ghost use Rattle.fixed_complex.specs.PairLists.{PairsWithin, entry};
+ghost use Rattle.butterfly64.specs.Rows.{IsJoined, IsParted, RowOfSize, RowsOfSize, apart, first_read, place_in, place_of_two, row_lane};
+
+use crate::row_turns::{PART_TURNS, ROW_TURNS};
+use crate::rows::{Row, joined_row, parted_row};
+use fixed_complex::Cx;
+use std::simd::prelude::*;
+
+// A stage of `up`: each of its 32 joins gives a sum and, 32 places further, a difference.
+#[inline(always)]
+pub(crate) fn join_rows(x: &[Row; 8], y: &mut [Row; 8], stage: usize)
+    requires stage { stage < 6 }
+    requires sizes { RowsOfSize (2 ^ 30 - 2 ^ 12) x.now }
+    ensures { IsJoined stage (place_in x.now) (place_in y.new) }
+{
+    for p in 0..4 {
+        let (first, second) = read_rows(x, stage, p);
+        let (sums, differences) = joined_row(&first, &second, &ROW_TURNS[4 * stage + p]);
+        y[p] = sums;
+        y[p + 4] = differences;
+    }
+}
+
+// A stage of `down`: for each of 32 pairs of pairs their sum and, 32 places further, their difference, turned back.
+#[inline(always)]
+pub(crate) fn part_rows(x: &[Row; 8], y: &mut [Row; 8], stage: usize)
+    requires stage { stage < 6 }
+    requires sizes { RowsOfSize (2 ^ 29 + 2 ^ 14) x.now }
+    ensures { IsParted stage (place_in x.now) (place_in y.new) }
+{
+    for p in 0..4 {
+        let (first, last) = read_rows(x, stage, p);
+        let (sums, differences) = parted_row(&first, &last, &PART_TURNS[4 * stage + p]);
+        y[p] = sums;
+        y[p + 4] = differences;
+    }
+}
+
+// The first and the second pairs that a stage joins for places 8p to 8p + 7.
+#[inline(always)]
+fn read_rows(x: &[Row; 8], stage: usize, p: usize) -> (Row, Row)
+    requires stage { stage < 6 }
+    requires p { p < 4 }
+    requires sizes { RowsOfSize (2 ^ 30 - 2 ^ 12) x.now }
+    ensures first { (l : ℕ) → l < 8 → row_lane result.0 l ≡ place_in x.now (first_read stage (8 * p + l)) }
+    ensures second { (l : ℕ) → l < 8
+        → row_lane result.1 l ≡ place_in x.now (first_read stage (8 * p + l) + apart stage) }
+{
+    match stage {
+        0 => (x[p], x[p + 4]),
+        1 => (x[p / 2 * 4 + p % 2], x[p / 2 * 4 + p % 2 + 2]),
+        2 => (x[2 * p], x[2 * p + 1]),
+        3 => four_apart(&x[2 * p], &x[2 * p + 1]),
+        4 => two_apart(&x[2 * p], &x[2 * p + 1]),
+        _ => one_apart(&x[2 * p], &x[2 * p + 1]),
+    }
+}
+
+// Of two rows the lower and the upper pairs of those that stand four places apart.
+#[inline(always)]
+fn four_apart(a: &Row, b: &Row) -> (Row, Row)
+    requires a { RowOfSize (2 ^ 30 - 2 ^ 12) a.now }
+    requires b { RowOfSize (2 ^ 30 - 2 ^ 12) b.now }
+    ensures lower { (l : ℕ) → l < 8 → row_lane result.0 l ≡ place_of_two a.now b.now (l + 4 * (l / 4)) }
+    ensures upper { (l : ℕ) → l < 8
+        → row_lane result.1 l ≡ place_of_two a.now b.now (l + 4 * (l / 4) + 4) }
+{
+    let (a_re, a_im) = (i32x8::from_array(a.re), i32x8::from_array(a.im));
+    let (b_re, b_im) = (i32x8::from_array(b.re), i32x8::from_array(b.im));
+    let lower = Row {
+        re: a_re.shuffle(b_re, [0, 1, 2, 3, 8, 9, 10, 11]).to_array(),
+        im: a_im.shuffle(b_im, [0, 1, 2, 3, 8, 9, 10, 11]).to_array(),
+    };
+    let upper = Row {
+        re: a_re.shuffle(b_re, [4, 5, 6, 7, 12, 13, 14, 15]).to_array(),
+        im: a_im.shuffle(b_im, [4, 5, 6, 7, 12, 13, 14, 15]).to_array(),
+    };
+    (lower, upper)
+}
+
+// Of two rows the lower and the upper pairs of those that stand two places apart.
+#[inline(always)]
+fn two_apart(a: &Row, b: &Row) -> (Row, Row)
+    requires a { RowOfSize (2 ^ 30 - 2 ^ 12) a.now }
+    requires b { RowOfSize (2 ^ 30 - 2 ^ 12) b.now }
+    ensures lower { (l : ℕ) → l < 8 → row_lane result.0 l ≡ place_of_two a.now b.now (l + 2 * (l / 2)) }
+    ensures upper { (l : ℕ) → l < 8
+        → row_lane result.1 l ≡ place_of_two a.now b.now (l + 2 * (l / 2) + 2) }
+{
+    let (a_re, a_im) = (i32x8::from_array(a.re), i32x8::from_array(a.im));
+    let (b_re, b_im) = (i32x8::from_array(b.re), i32x8::from_array(b.im));
+    let lower = Row {
+        re: a_re.shuffle(b_re, [0, 1, 4, 5, 8, 9, 12, 13]).to_array(),
+        im: a_im.shuffle(b_im, [0, 1, 4, 5, 8, 9, 12, 13]).to_array(),
+    };
+    let upper = Row {
+        re: a_re.shuffle(b_re, [2, 3, 6, 7, 10, 11, 14, 15]).to_array(),
+        im: a_im.shuffle(b_im, [2, 3, 6, 7, 10, 11, 14, 15]).to_array(),
+    };
+    (lower, upper)
+}
+
+// Of two rows the lower and the upper pairs of those that stand one place apart.
+#[inline(always)]
+fn one_apart(a: &Row, b: &Row) -> (Row, Row)
+    requires a { RowOfSize (2 ^ 30 - 2 ^ 12) a.now }
+    requires b { RowOfSize (2 ^ 30 - 2 ^ 12) b.now }
+    ensures lower { (l : ℕ) → l < 8 → row_lane result.0 l ≡ place_of_two a.now b.now (l + 1 * (l / 1)) }
+    ensures upper { (l : ℕ) → l < 8
+        → row_lane result.1 l ≡ place_of_two a.now b.now (l + 1 * (l / 1) + 1) }
+{
+    let (a_re, a_im) = (i32x8::from_array(a.re), i32x8::from_array(a.im));
+    let (b_re, b_im) = (i32x8::from_array(b.re), i32x8::from_array(b.im));
+    let lower = Row {
+        re: a_re.shuffle(b_re, [0, 2, 4, 6, 8, 10, 12, 14]).to_array(),
+        im: a_im.shuffle(b_im, [0, 2, 4, 6, 8, 10, 12, 14]).to_array(),
+    };
+    let upper = Row {
+        re: a_re.shuffle(b_re, [1, 3, 5, 7, 9, 11, 13, 15]).to_array(),
+        im: a_im.shuffle(b_im, [1, 3, 5, 7, 9, 11, 13, 15]).to_array(),
+    };
+    (lower, upper)
+}
+
+// 64 pairs of words, in rows.
+pub(crate) fn rows(x: &[Cx; 64]) -> [Row; 8]
+    requires { PairsWithin (2 ^ 31 - 1) x.now }
+    ensures { (n : ℕ) → n < 64 → place_in result n ≡ entry x.now n }
+{
+    let mut rows = [Row {
+        re: [0; 8],
+        im: [0; 8],
+    }; 8];
+    for r in 0..8 {
+        rows[r] = row_from(x, 8 * r);
+    }
+    rows
+}
+
+// The eight pairs from a place on.
+#[inline(always)]
+fn row_from(x: &[Cx; 64], place: usize) -> Row
+    requires place { place + 8 ≤ 64 }
+    requires words { PairsWithin (2 ^ 31 - 1) x.now }
+    ensures { (l : ℕ) → l < 8 → row_lane result l ≡ entry x.now (place + l) }
+{
+    let mut row = Row {
+        re: [0; 8],
+        im: [0; 8],
+    };
+    for l in 0..8 {
+        row.re[l] = word(x[place + l].re);
+        row.im[l] = word(x[place + l].im);
+    }
+    row
+}
+
+// A number as a word.
+fn word(number: i64) -> i32
+    requires { unsigned_abs number ≤ 2 ^ 31 - 1 }
+    ensures { result ≡ number }
+{
+    number as i32
+}
+
+// The pairs of eight rows.
+pub(crate) fn row_pairs(x: &[Row; 8]) -> [Cx; 64]
+    ensures { (n : ℕ) → n < 64 → entry result n ≡ place_in x.now n }
+{
+    let mut pairs = [Cx { re: 0, im: 0 }; 64];
+    for n in 0..64 {
+        pairs[n] = pair_in(&x[n / 8], n % 8);
+    }
+    pairs
+}
+
+// The pair in a lane.
+fn pair_in(x: &Row, l: usize) -> Cx
+    requires { l < 8 }
+    ensures { result ≡ row_lane x.now l }
+{
+    Cx {
+        re: i64::from(x.re[l]),
+        im: i64::from(x.im[l]),
+    }
+}
