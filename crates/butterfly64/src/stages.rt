@@ -170,8 +170,10 @@ pub(crate) fn row_pairs(x: &[Row; 8]) -> [Cx; 64]
     ensures { (n : ℕ) → n < 64 → entry result n ≡ place_in x.now n }
 {
     let mut pairs = [Cx { re: 0, im: 0 }; 64];
-    for n in 0..64 {
-        pairs[n] = pair_in(&x[n / 8], n % 8);
+    for r in 0..8 {
+        for l in 0..8 {
+            pairs[8 * r + l] = pair_in(&x[r], l);
+        }
     }
     pairs
 }
