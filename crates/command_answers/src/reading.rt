@@ -33,11 +33,10 @@ impl Reading {
     {
         match request {
             Request::Bits { .. } | Request::Send { .. } | Request::Show { .. } => Reading::Psdu,
-            Request::Decode { .. } | Request::DecodeSoft { .. } | Request::SendList => Reading::Bytes,
-            Request::Receive
-            | Request::Noise { .. }
-            | Request::Echo { .. }
-            | Request::Inspect => Reading::Capture,
+            Request::Decode { .. } | Request::DecodeSoft { .. } | Request::SendList =>
+                Reading::Bytes,
+            Request::Receive | Request::Noise { .. } | Request::Echo { .. } | Request::Inspect =>
+                Reading::Capture,
         }
     }
 }

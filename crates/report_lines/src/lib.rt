@@ -103,7 +103,8 @@ impl Refusal {
         ensures { result ≡ status_of self }
     {
         match self {
-            Refusal::Words | Refusal::BadScript { .. } | Refusal::BadTaps { .. } => Status::BadWords,
+            Refusal::Words | Refusal::BadScript { .. } | Refusal::BadTaps { .. } =>
+                Status::BadWords,
             Refusal::EmptyPsdu
             | Refusal::LongPsdu
             | Refusal::TornCapture { .. }
