@@ -8,7 +8,10 @@ use Rattle.capture_hearing.specs.Received.{received_of}
 use Rattle.frame_findings.specs.declared.Cut.{Cut}
 use Rattle.frame_findings.specs.declared.Heard.{Heard}
 use Rattle.frame_findings.specs.Laws.{OneFindings, OneReports, SomeFindings, SomeReports}
+use Rattle.command_answers.specs.Drilling.{HasDrilled}
 use Rattle.command_answers.specs.Receiving.{HasReceived, HasReports, outcome_of}
+use Rattle.frame_drills.proofs.Back.{one_summary, some_summary}
+use Rattle.frame_drills.specs.Summaries.{text_of_summary}
 use Rattle.frame_fields.specs.Frames.{sent_bytes}
 use Rattle.frame_fields.specs.Laws.{OneField, SomeField}
 use Rattle.soft_trellis.specs.Laws.{OneSoftField, SomeSoftField}
@@ -19,7 +22,7 @@ use Rattle.report_lines.specs.Refusals.{IsDecided, answering, asking, status_of,
 use Rattle.std.specs.Result.{IfErr, IfOk, result_err}
 use Rattle.command_words.proofs.Asked.{asked_or_refused, nothing_asked, one_refusal, one_request}
 use Rattle.command_words.specs.declared.Request.{Request}
-use Rattle.command_words.specs.declared.Request.TheVariants.{Bits, Decode, DecodeSoft, Send, SendList, Receive, Noise, Echo, Inspect, Show}
+use Rattle.command_words.specs.declared.Request.TheVariants.{Bits, Decode, DecodeSoft, Send, SendList, Receive, Noise, Echo, Inspect, Drill, Show}
 use Rattle.command_words.specs.declared.Stage.TheVariants.{Kept}
 use Rattle.command_words.specs.Asking.{AreRefusedFor, AskFor, command_of}
 use Rattle.frame_stages.specs.Stages.{stage_text_of}
@@ -54,6 +57,16 @@ received_one one capture a b (heard, cut, found, is) (heard', cut', found', is')
     let same = one capture heard heard' cut cut' found found' in
     is ∙ ap (λ frames. outcome_of (received_of frames cut)) same.0 ∙ ap (λ end. outcome_of (received_of heard' end)) same.1 ∙ sym is'
 
+-- what a drill comes to
+drill_some : (count : ℕ) → AtLeastOne (Answers (HasDrilled count))
+drill_some count =
+    let summary = some_summary count in
+    with_some (HasDrilled count) (λ answer outcome. outcome ≡ Writes answer) (text_of_summary summary.0) (summary.0, summary.1, refl) (Writes (text_of_summary summary.0), refl)
+
+drill_one : (count : ℕ) → AtMostOne (Answers (HasDrilled count))
+drill_one count =
+    answers_one (HasDrilled count) (λ x y has has'. has.2 ∙ ap text_of_summary (one_summary count has.0 has'.0 has.1 has'.1) ∙ sym has'.2)
+
 -- what is found of an input is there, by the laws of the crates below
 pub record SomeFound : Type 0 where
   pub field : SomeField
@@ -78,6 +91,7 @@ answer_some some SendList read = list_some read
 answer_some some (Echo pairs) read = (Writes (echoed_bytes pairs read), refl)
 answer_some some Receive read = received_some some.findings (samples_in read)
 answer_some some Inspect read = reports_some some.reports (samples_in read)
+answer_some some (Drill count) read = drill_some count
 answer_some some (Show stage rate seed) read = (Writes (stage_text_of stage rate seed read), refl)
 
 answer_one : OneFound → (request : Request) (read : List ℕ) → AtMostOne (AnswerOf request read)
@@ -90,6 +104,7 @@ answer_one one SendList read a b has has' = list_one read a b has has'
 answer_one one (Echo pairs) read a b is is' = is ∙ sym is'
 answer_one one Receive read a b has has' = received_one one.findings (samples_in read) a b has has'
 answer_one one Inspect read a b has has' = reports_one one.reports (samples_in read) a b has has'
+answer_one one (Drill count) read a b has has' = drill_one count a b has has'
 answer_one one (Show stage rate seed) read a b is is' = is ∙ sym is'
 
 -- an outcome isn't a refusal of the words
@@ -112,6 +127,7 @@ answer_is_no_word SendList read outcome has = list_all IsNoWord read (λ refusal
 answer_is_no_word (Echo pairs) read outcome is = rw is tt
 answer_is_no_word Receive read outcome (heard, cut, found, is) = rw is (received_is_no_word heard cut)
 answer_is_no_word Inspect read outcome has = answers_all IsNoWord (HasReports (samples_in read)) (λ answer. tt) outcome has
+answer_is_no_word (Drill count) read outcome has = answers_all IsNoWord (HasDrilled count) (λ answer. tt) outcome has
 answer_is_no_word (Show stage rate seed) read outcome is = rw is tt
 
 -- the same with the refusals of the input

@@ -11,7 +11,7 @@ use Rattle.report_lines.specs.declared.Refusal.{Refusal}
 use Rattle.report_lines.specs.declared.Refusal.TheVariants.{EmptyPsdu, LongPsdu, TornCapture, LongCapture, NoMemory, ReadFault}
 use Rattle.report_lines.specs.Refusals.{answering, step_of, writing}
 use Rattle.command_words.specs.declared.Command.{Command}
-use Rattle.command_words.specs.declared.Command.TheVariants.{Bits, Decode, DecodeSoft, Send, SendList, Receive, Noise, Echo, Inspect, Show}
+use Rattle.command_words.specs.declared.Command.TheVariants.{Bits, Decode, DecodeSoft, Send, SendList, Receive, Noise, Echo, Inspect, Drill, Show}
 use Rattle.command_answers.specs.declared.reading.Reading.{Reading}
 use Rattle.command_answers.specs.declared.reading.Reading.TheVariants.{Nothing, Psdu, Bytes, Capture}
 use Rattle.command_answers.specs.InOrder.{Outcome, Refuses, Unless}
@@ -27,6 +27,7 @@ reads SendList = Bytes
 reads Echo = Capture
 reads Receive = Capture
 reads Inspect = Capture
+reads (Drill count) = Nothing
 reads (Show stage rate seed) = Psdu
 
 -- the most bytes of input that are accepted

@@ -4,6 +4,7 @@ pub mod Decoding
 pub mod Listing
 pub mod Answers
 pub mod Receiving
+pub mod Drilling
 pub mod Outcome
 pub mod Flips
 pub mod InNoise

@@ -8,11 +8,12 @@ use Rattle.report_lines.specs.declared.Status.TheVariants as status
 use Rattle.report_lines.specs.Refusals.{status_of}
 use Rattle.command_words.specs.declared.Command.{Command}
 use Rattle.command_words.specs.declared.Request.{Request}
-use Rattle.command_words.specs.declared.Request.TheVariants.{Bits, Decode, DecodeSoft, Send, SendList, Receive, Noise, Echo, Inspect, Show}
+use Rattle.command_words.specs.declared.Request.TheVariants.{Bits, Decode, DecodeSoft, Send, SendList, Receive, Noise, Echo, Inspect, Drill, Show}
 use Rattle.command_words.specs.declared.Stage.TheVariants.{Kept}
 use Rattle.command_words.specs.Asking.{AreRefusedFor, AskFor, command_of}
 use Rattle.frame_stages.specs.Stages.{stage_text_of}
 use Rattle.command_answers.specs.Answers.{echoed_bytes, noisy_bytes}
+use Rattle.command_answers.specs.Drilling.{HasDrilled}
 use Rattle.command_answers.specs.Receiving.{HasReceived, HasReports}
 use Rattle.command_answers.specs.Decoding.{DecodeOutcome, SoftOutcome}
 use Rattle.command_answers.specs.Listing.{ListOutcome}
@@ -30,6 +31,7 @@ AnswerOf SendList read outcome = ListOutcome read outcome
 AnswerOf (Echo pairs) read outcome = outcome ≡ Writes (echoed_bytes pairs read)
 AnswerOf Receive read outcome = HasReceived (samples_in read) outcome
 AnswerOf Inspect read outcome = Answers (HasReports (samples_in read)) outcome
+AnswerOf (Drill count) read outcome = Answers (HasDrilled count) outcome
 AnswerOf (Show stage rate seed) read outcome = outcome ≡ Writes (stage_text_of stage rate seed read)
 
 -- the outcome of a request and the bytes of the input

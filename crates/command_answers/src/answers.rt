@@ -5,9 +5,10 @@ ghost use Rattle.command_answers.specs.Answers.{bytes_of_answer};
 ghost use Rattle.command_answers.specs.InOrder.{Refuses, Writes};
 ghost use Rattle.command_answers.specs.Inputs.{IsAccepted, reads};
 ghost use Rattle.command_answers.specs.Outcome.{AnswerOf};
+ghost use Rattle.command_answers.specs.Drilling.{HasDrilled};
 ghost use Rattle.command_answers.specs.Receiving.{HasReports};
 ghost use Rattle.command_words.specs.Asking.{command_of};
-ghost use Rattle.command_words.specs.Grammar.{IsInRange};
+ghost use Rattle.command_words.specs.Grammar.{IsFrom, IsInRange};
 ghost use Rattle.echo_taps.specs.Echoes.{echo_of};
 ghost use Rattle.modem_ports.specs.Counts.{Rose};
 ghost use Rattle.modem_ports.specs.Limits.{most_input};
@@ -22,6 +23,7 @@ use command_words::{Request, Stage};
 use echo_taps::Taps;
 use finding_lines::reports_text;
 use fixed_complex::Sample;
+use frame_drills::{drill, summary_text};
 use frame_stages::stage_text;
 use modem_links::{frame_samples, inspect};
 use modem_ports::{Failed, Sink, Steps, write_all};
@@ -68,6 +70,7 @@ pub(crate) fn answer_of(
         Request::Echo { taps } => Ok(Answer::Samples(echoed_samples(alloc, &taps, input)?)),
         Request::Receive => unreachable!(),
         Request::Inspect => Ok(Answer::Bytes(edges_text(alloc, input, steps)?)),
+        Request::Drill { count } => Ok(Answer::Bytes(drill_text(alloc, count, steps)?)),
         Request::Show { stage, rate, seed } => {
             Ok(Answer::Bytes(stage_text(alloc, stage, rate, seed, input)?))
         }
@@ -106,6 +109,15 @@ fn edges_text(alloc: Global, capture: &[u8], steps: &mut Steps) -> Result<Vec<u8
     let samples = samples_of(alloc, capture)?;
     let reports = inspect(alloc, &samples, steps)?;
     reports_text(alloc, &reports)
+}
+
+// The summary of a drill of so many frames.
+fn drill_text(alloc: Global, count: u32, steps: &mut Steps) -> Result<Vec<u8>, AllocError>
+    requires { IsFrom 1 1000 count }
+    ensures { IfOk result (λ text. HasDrilled count text.items) }
+{
+    let summary = drill(alloc, count, steps)?;
+    summary_text(alloc, &summary)
 }
 
 /// Writes the bytes of an answer to a sink (own). Takes no memory.

@@ -37,6 +37,7 @@ impl Reading {
                 Reading::Bytes,
             Request::Receive | Request::Noise { .. } | Request::Echo { .. } | Request::Inspect =>
                 Reading::Capture,
+            Request::Drill { .. } => Reading::Nothing,
         }
     }
 }
@@ -60,6 +61,7 @@ pub(crate) fn read_input<S: Source>(
     ensures reads { Reads kind (S.left source.old) (S.left source.new)
         (S.faults source.old) (S.faults source.new) (result_err result) }
     ensures counted { S.faults source.old ≤ S.faults source.new }
+    ensures unread { kind ≡ Reading.Nothing → source.new ≡ source.old }
 {
     match kind {
         Reading::Nothing => Ok(Vec::new(alloc)),

@@ -39,6 +39,7 @@ pub fn answer_from<S: Source>(
     ensures counted { S.faults source.old ≤ S.faults source.new }
     ensures untouched { request ≡ Request.Receive → IsErrOf result Refusal.NoMemory
         → source.new ≡ source.old }
+    ensures unread { reads (command_of request) ≡ Reading.Nothing → source.new ≡ source.old }
     ensures bounded { request ≡ Request.Receive → IfSome (S.left source.old)
         (λ bytes. steps.new ≤ steps.old + (32 * (length bytes / 4) + 512)) }
 {
@@ -88,6 +89,7 @@ fn answer_read<S: Source>(
     ensures reads { Reads (reads (command_of request)) (S.left source.old) (S.left source.new)
         (S.faults source.old) (S.faults source.new) (result_err result) }
     ensures counted { S.faults source.old ≤ S.faults source.new }
+    ensures unread { reads (command_of request) ≡ Reading.Nothing → source.new ≡ source.old }
 {
     let kind = Reading::of(&request);
     match read_input(alloc, kind, source) {

@@ -9,7 +9,7 @@ use Rattle.ofdm_scrambler.specs.Sequence.{IsSeed}
 use Rattle.command_words.specs.declared.Stage.{Stage}
 use Rattle.command_words.specs.declared.Stage.TheVariants.{Scrambled, Coded, Kept, Interleaved, Points, Header, Samples}
 use Rattle.command_words.specs.declared.Command.{Command}
-use Rattle.command_words.specs.declared.Command.TheVariants.{Bits, Decode, DecodeSoft, Send, SendList, Receive, Noise, Echo, Inspect, Show}
+use Rattle.command_words.specs.declared.Command.TheVariants.{Bits, Decode, DecodeSoft, Send, SendList, Receive, Noise, Echo, Inspect, Drill, Show}
 
 -- the texts of the words of the command line
 abbrev pub texts_of : Vec (String Global) Global → List (List ℕ)
@@ -50,8 +50,13 @@ AreWordsOf SendList words = words ≡ codes "send-list" ∷ []
 AreWordsOf Echo words = (text : List ℕ) × (words ≡ echo_words text)
 AreWordsOf Receive words = words ≡ codes "receive" ∷ []
 AreWordsOf Inspect words = words ≡ codes "inspect" ∷ []
+AreWordsOf (Drill count) words = words ≡ codes "drill" ∷ decimal count ∷ []
 AreWordsOf (Show stage rate seed) words =
     words ≡ codes "show" ∷ stage_word stage ∷ rate_word rate ∷ decimal seed ∷ []
+
+-- a number is from a least to a most one
+abbrev pub IsFrom : ℕ → ℕ → ℕ → Type 0
+IsFrom least most number = (least ≤ number) × (number ≤ most)
 
 -- the numbers of a command are within their ranges
 abbrev pub IsInRange : Command → Type 0
@@ -64,6 +69,7 @@ IsInRange SendList = Unit {0}
 IsInRange Echo = Unit {0}
 IsInRange Receive = Unit {0}
 IsInRange Inspect = Unit {0}
+IsInRange (Drill count) = IsFrom 1 1000 count
 IsInRange (Show stage rate seed) = IsSeed seed
 
 -- the words say the command
@@ -74,10 +80,6 @@ pub record Say (words : List (List ℕ)) (command : Command) : Type 0 where
 -- the words say no command
 abbrev pub SayNothing : List (List ℕ) → Type 0
 SayNothing words = (command : Command) → ¬ Say words command
-
--- a number is from a least to a most one
-abbrev pub IsFrom : ℕ → ℕ → ℕ → Type 0
-IsFrom least most number = (least ≤ number) × (number ≤ most)
 
 -- a word writes no number from a least to a most one
 abbrev pub WritesNoneFrom : ℕ → ℕ → List ℕ → Type 0

@@ -66,6 +66,10 @@ pub enum Command {
     Receive,
     /// `inspect`
     Inspect,
+    /// `drill COUNT`
+    Drill {
+        count: u32,
+    },
     /// `show STAGE RATE SEED`
     Show {
         stage: Stage,
@@ -111,6 +115,10 @@ pub enum Request {
     Receive,
     /// A line for each edge of a capture.
     Inspect,
+    /// The summary of a drill of so many frames.
+    Drill {
+        count: u32,
+    },
     /// The text of a stage.
     Show {
         stage: Stage,

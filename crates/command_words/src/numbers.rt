@@ -36,6 +36,15 @@ pub fn read_length(word: &str) -> Option<u16>
     Some(read_from(word, 1, u64::from(MOST_OCTETS))? as u16)
 }
 
+// The number of frames that a word writes, 1 to 1000.
+pub fn read_count(word: &str) -> Option<u32>
+    ensures count { IfSome result (λ count. word.now ≡ decimal count) }
+    ensures range { IfSome result (IsFrom 1 1000) }
+    ensures none { IfNone result (WritesNoneFrom 1 1000 word.now) }
+{
+    Some(read_from(word, 1, 1000)? as u32)
+}
+
 // The number from `least` to `most` that a word writes.
 fn read_from(word: &str, least: u64, most: u64) -> Option<u64>
     requires some { least ≤ most }

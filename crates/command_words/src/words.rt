@@ -2,12 +2,12 @@
 ghost use Rattle.std.specs.Prelude.{◌≡◌, ◌≢◌, [], ◌∷◌, length, IfSome, IfNone};
 ghost use Rattle.command_words.specs.Grammar.{NamesNoStage, Say, SayNothing, stage_word, texts_of};
 
-use crate::numbers::{read_length, read_rate, read_seed};
+use crate::numbers::{read_count, read_length, read_rate, read_seed};
 use crate::{Command, Stage};
 
 /// The command that the words say, without the program's name (own): None exactly where they say
 /// none. RATE is a number of megabits a second, 6 to 54 by the table of the rates, SEED is from 1 to
-/// 127 and LENGTH from 1 to 4095, all in decimal digits with no sign and no leading zero; SCRIPT is any
+/// 127, LENGTH from 1 to 4095 and COUNT from 1 to 1000, all in decimal digits with no sign and no leading zero; SCRIPT is any
 /// one word, which `read_request` reads, and so is TAPS; a stage is `scrambled`, `coded`, `kept`, `interleaved`,
 /// `points`, `header` or `samples`. Takes no memory.
 pub fn read_words(words: &Vec<String>) -> Option<Command>
@@ -48,12 +48,15 @@ fn read_one(name: &str) -> Option<Command>
     }
 }
 
-// The command of two words, whatever the second is.
-fn read_two(name: &str, _text: &str) -> Option<Command>
-    ensures command { IfSome result (Say (name.now ∷ _text.now ∷ [])) }
-    ensures none { IfNone result (SayNothing (name.now ∷ _text.now ∷ [])) }
+// The command of two words.
+fn read_two(name: &str, a: &str) -> Option<Command>
+    ensures command { IfSome result (Say (name.now ∷ a.now ∷ [])) }
+    ensures none { IfNone result (SayNothing (name.now ∷ a.now ∷ [])) }
 {
     match name {
+        "drill" => Some(Command::Drill {
+            count: read_count(a)?,
+        }),
         "noise" => Some(Command::Noise),
         "echo" => Some(Command::Echo),
         _ => None,

@@ -3,6 +3,7 @@
 #![tactic(auto)]
 
 pub use command_words::read_words;
+pub use frame_drills::{Summary, drill};
 pub use frame_stages::stage_text;
 use modem_ports::{StdSink, StdSource, Steps};
 pub use modem_runs::{dry_run, run};

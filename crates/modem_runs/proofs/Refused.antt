@@ -14,11 +14,12 @@ use Rattle.command_words.proofs.Reading.{one_command}
 use Rattle.command_words.proofs.Asked.{nothing_asked, refused_at}
 use Rattle.command_words.specs.declared.Command.TheVariants as command
 use Rattle.command_words.specs.declared.Request.{Request}
-use Rattle.command_words.specs.declared.Request.TheVariants.{Bits, Decode, DecodeSoft, Send, SendList, Receive, Noise, Echo, Inspect, Show}
+use Rattle.command_words.specs.declared.Request.TheVariants.{Bits, Decode, DecodeSoft, Send, SendList, Receive, Noise, Echo, Inspect, Drill, Show}
 use Rattle.command_words.specs.Asking.{AreRefusedFor, AskFor, AskForNothing, command_of}
 use Rattle.command_words.specs.Grammar.{Say}
 use Rattle.command_answers.proofs.Outcomes.{words_are_refused}
 use Rattle.command_answers.specs.declared.reading.Reading.{Reading}
+use Rattle.command_answers.specs.declared.reading.Reading.TheVariants.{Nothing}
 use Rattle.command_answers.specs.InOrder.{Outcome, Refuses, Writes}
 use Rattle.command_answers.specs.Inputs.{Reads, reads}
 use Rattle.command_answers.specs.Laws.{OneOutcome}
@@ -50,10 +51,15 @@ is_receive Receive is = refl
 is_receive (Noise items) is = cc
 is_receive (Echo pairs) is = cc
 is_receive Inspect is = cc
+is_receive (Drill count) is = cc
 is_receive (Show stage rate seed) is = cc
 
 pub receive_asked : (words : List (List ℕ)) (request : Request) → AskFor words request → Say words command.Receive → request ≡ Receive
 receive_asked words request asks says = is_receive request (one_command words (command_of request) command.Receive asks.said says)
+
+-- what is asked for by words that say a drill reads nothing
+pub drill_reads_nothing : (words : List (List ℕ)) (request : Request) (count : ℕ) → AskFor words request → Say words (command.Drill count) → reads (command_of request) ≡ Nothing
+drill_reads_nothing words request count asks says = ap reads (one_command words (command_of request) (command.Drill count) asks.said says)
 
 -- the status of want of memory is that of no other refusal
 pub is_no_memory : (refusal : Refusal) → status_of refusal ≡ status.NoMemory → refusal ≡ NoMemory

@@ -118,6 +118,10 @@ pub fn run<S: Source, K: Sink, E: Sink>(
         → IsCheapText (texts_of words.now) bytes psdu
         → IsWrittenUnlessNoMemory result psdu (K.taken out.old) (K.taken out.new)) }
 
+    // With `drill` the source isn't touched.
+    ensures unread { (count : ℕ) → Say (texts_of words.now) (Command.Drill count)
+        → source.new ≡ source.old }
+
     // With `receive`, want of memory comes before the first read, and the steps are at most 32 for each
     // sample, and 512.
     ensures memory_first { Say (texts_of words.now) Command.Receive
@@ -206,6 +210,8 @@ fn execute<S: Source, K: Sink>(
         → Rose (K.faults out.old) (K.faults out.new) }
     ensures source_counted { S.faults source.old ≤ S.faults source.new }
     ensures out_counted { K.faults out.old ≤ K.faults out.new }
+    ensures unread { (count : ℕ) → Say (texts_of words.now) (Command.Drill count)
+        → source.new ≡ source.old }
     ensures memory_first { Say (texts_of words.now) Command.Receive
         → IsErrOf result Refusal.NoMemory → source.new ≡ source.old }
     ensures bounded { Say (texts_of words.now) Command.Receive → IfSome (S.left source.old)

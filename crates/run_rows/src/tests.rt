@@ -266,6 +266,10 @@ fn refuses_words(rt: HostRuntime) -> Result<(), Fail> {
         "noise lead 1",
         "send-list 1",
         "sendlist",
+        "drill 0",
+        "drill 1001",
+        "drill 050",
+        "drill",
         "",
     ];
     for line in lines {
@@ -767,6 +771,19 @@ fn inspects_a_hostile_capture(rt: HostRuntime) -> Result<(), Fail> {
         &rt,
         rt.alloc(),
         &answers("inspect", &capture, Out::Whole(lines.as_bytes())),
+    )?;
+    Ok(())
+}
+
+#[test]
+fn drills_fifty_frames(rt: HostRuntime) -> Result<(), Fail> {
+    let text = written(rt.alloc(), "drill 50", b"")?;
+    assert!(rt; text.as_slice().starts_with(b"drill 50 heard 50 octets "));
+    assert!(rt; text.as_slice().ends_with(b" samples 1047839\n"));
+    check(
+        &rt,
+        rt.alloc(),
+        &answers("drill 50", b"no input", Out::Whole(&text)),
     )?;
     Ok(())
 }

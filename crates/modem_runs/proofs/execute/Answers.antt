@@ -5,7 +5,7 @@ use Rattle.command_answers.specs.Answers.{bytes_of_answer}
 use Rattle.command_answers.specs.Inputs.{reads}
 use Rattle.command_words.specs.Asking.{command_of}
 use Rattle.command_words.specs.Grammar.{texts_of}
-use Rattle.modem_runs.proofs.Refused.{reads_nothing, reads_of_said, reads_unwritten, receive_asked}
+use Rattle.modem_runs.proofs.Refused.{drill_reads_nothing, reads_nothing, reads_of_said, reads_unwritten, receive_asked}
 use Rattle.modem_runs.proofs.Written.{takes_answer, takes_answer_prefix}
 use Rattle.modem_runs.proofs.execute.Goals as goal
 
@@ -58,3 +58,15 @@ returns-clause-reads g c = λ command says.
 pub returns-in-Ok-clause-reads : goal.returns-in-Ok-clause-reads
 returns-in-Ok-clause-reads g c = λ command says.
     reads_of_said (texts_of c.args.words.now) c.in_ok-request.request command (reads (command_of c.in_ok-request.request)) _ _ _ _ _ refl c.in_ok-request.ensures.request says c.in_ok-answer.ensures.reads
+
+pub returns-in_err-answer-clause-unread : goal.returns-in_err-answer-clause-unread
+returns-in_err-answer-clause-unread g c = λ count says.
+    c.in_err-answer.ensures.unread (drill_reads_nothing (texts_of c.args.words.now) c.in_ok-request.request count c.in_ok-request.ensures.request says)
+
+pub returns-in-Ok-clause-unread : goal.returns-in-Ok-clause-unread
+returns-in-Ok-clause-unread g c = λ count says.
+    c.in_ok-answer.ensures.unread (drill_reads_nothing (texts_of c.args.words.now) c.in_ok-request.request count c.in_ok-request.ensures.request says)
+
+pub returns-clause-unread : goal.returns-clause-unread
+returns-clause-unread g c = λ count says.
+    c.in_ok-answer.ensures.unread (drill_reads_nothing (texts_of c.args.words.now) c.in_ok-request.request count c.in_ok-request.ensures.request says)

@@ -14,3 +14,7 @@ returns-in-SendList-clause-refused c = rw c.in-SendList.is c.listed.ensures.refu
 pub returns-in_ok-edges_text-in-Inspect-clause-ok : goal.returns-in_ok-edges_text-in-Inspect-clause-ok
 returns-in_ok-edges_text-in-Inspect-clause-ok c =
     rw c.in-Inspect.is (with_it c.in_ok-edges_text-in-Inspect.field-0.items c.in_ok-edges_text-in-Inspect.ensures refl)
+
+pub returns-in_ok-drill_text-in-Drill-clause-ok : goal.returns-in_ok-drill_text-in-Drill-clause-ok
+returns-in_ok-drill_text-in-Drill-clause-ok c =
+    rw c.in-Drill.is (with_it c.in_ok-drill_text-in-Drill.field-0.items c.in_ok-drill_text-in-Drill.ensures refl)
