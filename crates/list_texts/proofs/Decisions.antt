@@ -2,8 +2,10 @@
 use Rattle.std.proofs.Common.{ℕ, suc, ◌%◌, ◌≤◌, ◌≡◌, ◌⊎◌, List, [], ◌∷◌, length, take, inl, inr, refl, arith}
 use Rattle.std.proofs.lemmas.Bool.{cases_eq, cases_lt}
 use Rattle.std.proofs.lemmas.List.Elements.{All-cons, All-nil}
+use Rattle.hex_digits.proofs.Decided.{digit_or_not}
+use Rattle.hex_digits.specs.Digits.{IsDigit}
 use Rattle.list_texts.specs.Lists.{IsList, SaysLine}
-use Rattle.list_texts.specs.Words.{AreDigits, IsDigit, IsDigitsEnd, IsGapped, IsRate, IsSeeded, SaysRate, rate_names}
+use Rattle.list_texts.specs.Words.{AreDigits, IsDigitsEnd, IsGapped, IsRate, IsSeeded, SaysRate, rate_names}
 use Rattle.list_texts.proofs.HexDigits.{bad_inside, bad_whole, good_whole}
 use Rattle.list_texts.proofs.Lines.{bad_line, gap_words, line_of_pair, rate_words, seed_words}
 use Rattle.list_texts.proofs.Lists.{lines}
@@ -12,22 +14,6 @@ use Rattle.word_grammar.specs.Numbers.{SaysNumber}
 use Rattle.word_grammar.specs.Pairs.{SaysSome}
 use Rattle.word_grammar.specs.Places.{IsBadAt, IsDecided}
 use Rattle.word_grammar.proofs.Decided.{decided_lines, decided_name, decided_number, decided_pair}
-
-digit_or_not : (byte : ℕ) → IsDigit byte ⊎ ¬ IsDigit byte
-digit_or_not byte =
-    elim (cases_lt byte 48) [
-      | inl low ↦ inr (λ d. elim d [ inl h ↦ omega (arith, h.0) | inr h ↦ omega (arith, h.0) ])
-      | inr from ↦ elim (cases_lt byte 58) [
-        | inl few ↦ inl (inl (from, omega arith))
-        | inr past ↦ elim (cases_lt byte 97) [
-          | inl between ↦ inr (λ d. elim d [ inl h ↦ omega (arith, h.1) | inr h ↦ omega (arith, h.0) ])
-          | inr letter ↦ elim (cases_lt 102 byte) [
-            | inl high ↦ inr (λ d. elim d [ inl h ↦ omega (arith, h.1) | inr h ↦ omega (arith, h.1) ])
-            | inr within ↦ inl (inr (letter, within))
-          ]
-        ]
-      ]
-    ]
 
 -- each word begins with some digits
 end_of_digits : (word : List ℕ) → (end : ℕ) × IsDigitsEnd word end

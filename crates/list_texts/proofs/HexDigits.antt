@@ -6,7 +6,8 @@ use Rattle.std.proofs.lemmas.List.Elements.{All-append, All-cons, All-get_or, Al
 use Rattle.bit_lists.specs.Bits.{AreOctets, IsOctet}
 use Rattle.hex.specs.Hex.{encode_lower, encode_with, lower_digits}
 use Rattle.hex.proofs.HexLemmas.{length-encode_with}
-use Rattle.list_texts.specs.Words.{AreDigits, IsDigit, IsDigitsEnd, SaysOctets}
+use Rattle.hex_digits.specs.Digits.{IsDigit}
+use Rattle.list_texts.specs.Words.{AreDigits, IsDigitsEnd, SaysOctets}
 use Rattle.word_grammar.specs.Marks.{HasNo}
 use Rattle.word_grammar.specs.Places.{Begins, IsBadAt}
 use Rattle.word_grammar.proofs.Marks.{bare_by_byte, same_cons}

@@ -3,6 +3,7 @@ use Rattle.std.specs.Prelude.{ℕ, ◌≤◌, ◌≡◌, ◌⊎◌, List, [], �
 use Rattle.std.specs.Fmt.{decimal}
 use Rattle.bit_lists.specs.Bits.{AreOctets}
 use Rattle.hex.specs.Hex.{encode_lower}
+use Rattle.hex_digits.specs.Digits.{IsDigit}
 use Rattle.list_texts.specs.declared.words.Head.{Head}
 use Rattle.ofdm_scrambler.specs.Sequence.{IsSeed}
 use Rattle.rate_table.specs.Symbols.{IsLength}
@@ -11,10 +12,6 @@ use Rattle.rate_table.specs.declared.Rate.{Rate}
 use Rattle.rate_table.specs.declared.Rate.TheVariants.{R6, R9, R12, R18, R24, R36, R48, R54}
 use Rattle.word_grammar.specs.Numbers.{SaysNumber}
 use Rattle.word_grammar.specs.Pairs.{SaysPair, SaysSome}
-
--- a digit: `0` to `9`, or `a` to `f`
-abbrev pub IsDigit : ℕ → Type 0
-IsDigit byte = ((48 ≤ byte) × (byte ≤ 57)) ⊎ ((97 ≤ byte) × (byte ≤ 102))
 
 -- a word begins with so many digits, and no more
 pub record IsDigitsEnd (word : List ℕ) (end : ℕ) : Type 0 where

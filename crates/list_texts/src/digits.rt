@@ -1,10 +1,11 @@
 //! Octets in hexadecimal digits.
-ghost use Rattle.std.specs.Prelude.{◌≡◌, ◌≤◌, ◌↔◌, length, IfOk, IfErr, IsTrue};
-ghost use Rattle.list_texts.specs.Words.{AreDigits, IsDigit, IsDigitsEnd, SaysOctets};
+ghost use Rattle.std.specs.Prelude.{◌≡◌, ◌≤◌, length, IfOk, IfErr};
+ghost use Rattle.list_texts.specs.Words.{AreDigits, IsDigitsEnd, SaysOctets};
 ghost use Rattle.word_grammar.specs.Places.{IsBadAt};
 
 use bit_lists::Octets;
 use hex::decode_to_slice;
+use hex_digits::is_digit;
 use rate_table::MOST_OCTETS;
 use std::alloc::{AllocError, Global};
 
@@ -34,13 +35,6 @@ fn digits_end(word: &[u8]) -> usize
         }
     }
     word.len()
-}
-
-// Whether a byte is a digit.
-fn is_digit(byte: u8) -> bool
-    ensures { IsTrue result ↔ IsDigit byte }
-{
-    matches!(byte, b'0'..=b'9' | b'a'..=b'f')
 }
 
 // The octets of their digits.

@@ -3,7 +3,9 @@ use Rattle.std.proofs.Common.{◌≡◌, ◌≢◌, ℕ, ◌+◌, ◌-◌, ◌<�
 use Rattle.std.proofs.lemmas.Bool.{cases_lt, cond-true, cond-false, lt-ltb, le-ltb}
 use Rattle.character_texts.specs.Texts.{IsAlphabet}
 use Rattle.character_texts.proofs.Values as texts
-use Rattle.soft_trellis.specs.Text.{IsBadPlace, IsDigit, IsTextOf, digit_of}
+use Rattle.hex_digits.proofs.Decided.{digit_or_not}
+use Rattle.hex_digits.specs.Digits.{IsDigit}
+use Rattle.soft_trellis.specs.Text.{IsBadPlace, IsTextOf, digit_of}
 use Rattle.soft_trellis.specs.Values.{AreValues, IsValue}
 
 -- the digit of a value, below 10 and from 10 on
@@ -24,23 +26,6 @@ digit_is value is =
 value_for : (byte : ℕ) → IsDigit byte → (value : ℕ) × (IsValue value × (digit_of value ≡ byte))
 value_for byte (inl low) = (byte - 48, (omega arith, omega (arith, low_digit (byte - 48) (omega arith))))
 value_for byte (inr high) = (byte - 87, (omega arith, omega (arith, high_digit (byte - 87) (omega arith))))
-
--- a digit or none
-digit_decided : (byte : ℕ) → IsDigit byte ⊎ (IsDigit byte → ⊥)
-digit_decided byte =
-    elim (cases_lt byte 48) [
-      | inl below ↦ inr (λ is. elim is [ inl low ↦ omega (arith, low.0) | inr high ↦ omega (arith, high.0) ])
-      | inr from ↦ elim (cases_lt byte 58) [
-        | inl low ↦ inl (inl (omega arith, omega arith))
-        | inr behind ↦ elim (cases_lt byte 97) [
-          | inl between ↦ inr (λ is. elim is [ inl low ↦ omega (arith, low.1) | inr high ↦ omega (arith, high.0) ])
-          | inr later ↦ elim (cases_lt byte 103) [
-            | inl high ↦ inl (inr (omega arith, omega arith))
-            | inr above ↦ inr (λ is. elim is [ inl low ↦ omega (arith, low.1) | inr high ↦ omega (arith, high.1) ])
-          ]
-        ]
-      ]
-    ]
 
 -- a digit is its value and 48, or its value and 87
 abbrev ByDigit : ℕ → Type 0
@@ -68,7 +53,7 @@ pub digits_alphabet : IsAlphabet IsValue IsDigit digit_of
 digits_alphabet = record {
   written = digit_is;
   read = value_for;
-  decided = digit_decided;
+  decided = digit_or_not;
   alike = alike;
   no_newline = no_newline;
 }

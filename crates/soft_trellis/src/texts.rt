@@ -1,7 +1,8 @@
 //! The values of a text of hexadecimal digits.
 ghost use Rattle.std.specs.Prelude.{◌≡◌, ℕ, [], ◌∷◌, ◌++◌, IfOk, IfNone, IfSome, IsErrOf, OnOk};
+ghost use Rattle.hex_digits.specs.Digits.{IsDigit};
 ghost use Rattle.soft_trellis.specs.declared.texts.CostFault.TheVariants.{NoMemory};
-ghost use Rattle.soft_trellis.specs.Text.{IsBadPlace, IsDigit, IsTextOf, digit_of};
+ghost use Rattle.soft_trellis.specs.Text.{IsBadPlace, IsTextOf, digit_of};
 ghost use Rattle.soft_trellis.specs.Values.{AreValues, IsValue};
 
 use character_texts::without_newline;

@@ -1,5 +1,5 @@
 use Rattle.std.proofs.Common.{All, take}
-use Rattle.list_texts.specs.Words.{IsDigit}
+use Rattle.hex_digits.specs.Digits.{IsDigit}
 use Rattle.list_texts.proofs.digits.digits_end.Given as goal
 
 abbrev pub invariant-loop-at : goal.invariant-loop-at
