@@ -73,7 +73,7 @@ size-sum_below (suc n) b f h =
     wider (n * b + b) (suc n * b) _ (omega arith) (size-plus (n * b) b (sum_below n f) (f n) (size-sum_below n b f (λ m lt. h m (omega arith))) (h n (omega arith)))
 
 -- the size of a pair by a bound on its components
-size_by_parts : (a b : ℕ) (z : Cx) → a * a + a * a ≤ b * b → IsWithin a z → IsOfSize b z
+pub size_by_parts : (a b : ℕ) (z : Cx) → a * a + a * a ≤ b * b → IsWithin a z → IsOfSize b z
 size_by_parts a b z enough within = record { size = size_of_parts z.re z.im a a b within.re within.im enough }
 
 size-plain_down : (bound : ℕ) (e : ℕ → Cx) (c : ℕ) → ((n : ℕ) → n < 64 → IsWithin (2097152 * bound) (e n)) → IsOfSize (64 * (2965821 * bound * 1048577)) (plain_down e c)
@@ -125,6 +125,28 @@ within-plain_down bound e c within =
 part_back : (bound : ℕ) (y f p x : ℤ) → unsigned_abs (pos 1048576 *ℤ y -ℤ f) ≤ 40 * 2 ^ 20 → unsigned_abs (pos 2097152 *ℤ f -ℤ p) ≤ 64 * (2097152 * bound * 1482910) → unsigned_abs (p -ℤ pos 70368744177664 *ℤ x) ≤ 9 * 2 ^ 41 → unsigned_abs (y -ℤ pos 32 *ℤ x) ≤ 91 * bound + 49
 part_back bound y f p x near noise undone = omega (arith, ints)
 
+-- ---- the plain sum of the plain body of 64 bins
+module _ (sent : ℕ → Cx) (sent_within : (bin : ℕ) → bin < 64 → IsWithin 954 (sent bin)) where
+  -- what is sent in the 64 bins, and (0, 0) elsewhere
+  abbrev kept : ℕ → Cx
+  kept = entry (map sent (range_with_len 0 64))
+
+  kept_is : (bin : ℕ) → bin < 64 → kept bin ≡ sent bin
+  kept_is bin lt = entry-map sent 64 bin lt
+
+  kept_within : (bin : ℕ) → IsWithin 954 (kept bin)
+  kept_within =
+      everywhere_within 954 (map sent (range_with_len 0 64))
+      (record { each = λ n lt. let below : n < 64 = omega (arith, length-map-range_with_len sent 0 64) in rw (kept_is n below) (sent_within n below) })
+
+  same_up : plain_up kept ≡ plain_up sent
+  same_up = λ i n. plain_body-local kept sent kept_is n i
+
+  pub plain_back : (bin : ℕ) → bin < 64 → IsWithin (9 * 2 ^ 41) (minus (plain_down (plain_up sent) bin) (multiple (pos 70368744177664) (sent bin)))
+  plain_back bin lt =
+      subst (λ x. IsWithin (9 * 2 ^ 41) (minus (plain_down (plain_up sent) bin) (multiple (pos 70368744177664) x))) (kept_is bin lt)
+      (subst (λ wave. IsWithin (9 * 2 ^ 41) (minus (plain_down wave bin) (multiple (pos 70368744177664) (kept bin)))) same_up (near_carrier bin lt kept kept_within))
+
 -- ---- the laws
 pub received_are_near : ReceivedAreNear
 received_are_near samples small = record {
@@ -157,21 +179,6 @@ module _ (bound : ℕ) (sent : ℕ → Cx) (body : List Sample) (carriers : List
       let part = rw (entry-map (plain_body sent) 64 n below) at (near.each n here) in
       record { re = part.i; im = part.q }
 
-  -- what is sent in the 64 bins, and (0, 0) elsewhere
-  abbrev kept : ℕ → Cx
-  kept = entry (map sent (range_with_len 0 64))
-
-  kept_is : (bin : ℕ) → bin < 64 → kept bin ≡ sent bin
-  kept_is bin lt = entry-map sent 64 bin lt
-
-  kept_within : (bin : ℕ) → IsWithin 954 (kept bin)
-  kept_within =
-      everywhere_within 954 (map sent (range_with_len 0 64))
-      (record { each = λ n lt. let below : n < 64 = omega (arith, length-map-range_with_len sent 0 64) in rw (kept_is n below) (sent_within n below) })
-
-  same_up : plain_up kept ≡ plain_up sent
-  same_up = λ i n. plain_body-local kept sent kept_is n i
-
   abbrev y : Cx
   y = entry carriers bin
 
@@ -182,9 +189,7 @@ module _ (bound : ℕ) (sent : ℕ → Cx) (body : List Sample) (carriers : List
   p = plain_down (plain_up sent) bin
 
   table : IsWithin (9 * 2 ^ 41) (minus p (multiple (pos 70368744177664) (sent bin)))
-  table =
-      subst (λ x. IsWithin (9 * 2 ^ 41) (minus p (multiple (pos 70368744177664) x))) (kept_is bin lt)
-      (subst (λ wave. IsWithin (9 * 2 ^ 41) (minus (plain_down wave bin) (multiple (pos 70368744177664) (kept bin)))) same_up (near_carrier bin lt kept kept_within))
+  table = plain_back sent sent_within bin lt
 
   pub comes_back : IsOfSize (91 * bound + 70) (minus y (multiple (pos 32) (sent bin)))
   comes_back =

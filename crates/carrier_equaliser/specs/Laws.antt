@@ -5,7 +5,7 @@ use Rattle.fixed_complex.specs.declared.Sample.{Sample}
 use Rattle.fixed_complex.specs.PairLists.{entry}
 use Rattle.fixed_complex.specs.Pairs.{IsOfSize, IsWithin, minus, multiple}
 use Rattle.butterfly64.specs.PlainSums.{plain_down}
-use Rattle.carrier_equaliser.specs.Nearness.{AreNearPlainSums}
+use Rattle.carrier_equaliser.specs.Nearness.{AreNearPlainSums, IsNearWave}
 use Rattle.carrier_equaliser.specs.Received.{pair_at, received}
 
 -- the received carriers of samples of 16 bits are within 40 of the plain sums
@@ -19,9 +19,6 @@ ReceivedAreNear =
 abbrev pub ReceivedAtAnyScale : Type 0
 ReceivedAtAnyScale =
     (scale bound : ℕ) (wave : ℕ → Cx) (body : List Sample) (carriers : List Cx)
-    → ((n : ℕ) → n < 64
-    → IsWithin (2 ^ 21 * (scale * bound))
-    (minus (multiple (pos (2 ^ 21 * scale)) (pair_at body n)) (wave n)))
-    → AreNearPlainSums 40 carriers body → (bin : ℕ) → bin < 64
+    → IsNearWave scale bound wave body → AreNearPlainSums 40 carriers body → (bin : ℕ) → bin < 64
     → IsOfSize (scale * (2 ^ 21 * 59316417 + 64 * (2965821 * 1048577 * bound)))
     (minus (multiple (pos (2 ^ 41 * scale)) (entry carriers bin)) (plain_down wave bin))

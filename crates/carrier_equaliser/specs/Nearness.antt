@@ -2,6 +2,7 @@
 use Rattle.std.specs.Prelude.{◌≡◌, ℕ, ◌*◌, ◌<◌, ◌≤◌, ◌^◌, List, length, unsigned_abs, pos, ◌-ℤ◌, ◌*ℤ◌}
 use Rattle.fixed_complex.specs.declared.Cx.{Cx}
 use Rattle.fixed_complex.specs.declared.Sample.{Sample}
+use Rattle.fixed_complex.specs.Pairs.{IsWithin, minus, multiple}
 use Rattle.butterfly64.specs.PlainSums.{plain_down}
 use Rattle.fixed_complex.specs.PairLists.{entry}
 use Rattle.carrier_equaliser.specs.Received.{pair_at}
@@ -16,3 +17,10 @@ pub record AreNearPlainSums (bound : ℕ) (carriers : List Cx) (samples : List S
   pub long : length carriers ≡ 64
   pub each : (bin : ℕ) → bin < 64
       → IsNearPlainSum bound (entry carriers bin) (plain_down (pair_at samples) bin)
+
+-- 64 samples are within a bound of a wave over 2^21 times a scale, in each component
+abbrev pub IsNearWave : ℕ → ℕ → (ℕ → Cx) → List Sample → Type 0
+IsNearWave scale bound wave body =
+    (n : ℕ) → n < 64
+    → IsWithin (2 ^ 21 * (scale * bound))
+    (minus (multiple (pos (2 ^ 21 * scale)) (pair_at body n)) (wave n))

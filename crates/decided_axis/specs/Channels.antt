@@ -1,7 +1,8 @@
 -- Received carriers and an estimate over one channel, up to errors (own). The scale stands in place of a quotient:
 -- what is said of a pair holds of the scale times the pair.
-use Rattle.std.specs.Prelude.{ℕ, ◌+◌, ◌*◌, ◌<◌, pos, ◌+ℤ◌, ◌*ℤ◌, ◌≤ℤ◌}
+use Rattle.std.specs.Prelude.{ℕ, ◌+◌, ◌*◌, ◌<◌, List, pos, ◌+ℤ◌, ◌*ℤ◌, ◌≤ℤ◌}
 use Rattle.fixed_complex.specs.declared.Cx.{Cx}
+use Rattle.fixed_complex.specs.PairLists.{entry}
 use Rattle.fixed_complex.specs.Pairs.{IsOfSize, minus, multiple, times}
 use Rattle.rate_table.specs.declared.Modulation.{Modulation}
 use Rattle.rate_table.specs.declared.Modulation.TheVariants.{Bpsk, Qpsk, Qam16, Qam64}
@@ -20,6 +21,11 @@ pub record IsCarried (scale error : ℕ) (channel sent received : Cx) : Type 0 w
 pub record IsEstimated (scale error : ℕ) (channel estimate : Cx) : Type 0 where
   pub near : IsOfSize (scale * error)
       (minus (multiple (pos scale) estimate) (multiple (pos 41472) channel))
+
+-- in each of 64 bins what was sent comes back over the channel there
+abbrev pub AreCarried : ℕ → ℕ → (ℕ → Cx) → (ℕ → Cx) → List Cx → Type 0
+AreCarried scale error channel sent received =
+    (bin : ℕ) → bin < 64 → IsCarried scale error (channel bin) (sent bin) (entry received bin)
 
 -- no point of a modulation is larger in size
 abbrev pub size_of_point : Modulation → ℕ

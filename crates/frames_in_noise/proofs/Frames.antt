@@ -11,7 +11,8 @@ use Rattle.frame_reader.specs.Decisions.{body_of, decisions_of, estimate_from, p
 use Rattle.exact_decisions.specs.Sent.{AreAsSent, code_of_symbol, rate_of_symbol}
 use Rattle.exact_decisions.proofs.Heard.{sent_is_heard}
 use Rattle.frames_in_noise.specs.Laws.{BeginsNear, FrameIsRead, noise_bound_of}
-use Rattle.frames_in_noise.proofs.Codes.{bound_of_symbol, code_bits, code_long, same_points}
+use Rattle.exact_decisions.proofs.Codes.{code_bits, code_long, same_points}
+use Rattle.frames_in_noise.proofs.Codes.{bound_of_symbol}
 use Rattle.frames_in_noise.proofs.Parts.{near_first, near_preamble, near_second, near_symbol}
 
 pub as_sent : (bound : ℕ) (samples : List Sample) (frame : SentFrame) → bound ≤ noise_bound_of frame → BeginsNear bound samples frame → AreAsSent frame.rate frame.seed frame.psdu (plain_decisions samples)

@@ -1,25 +1,29 @@
 -- Samples near a plain body have 16 bits, and bring each carrier 32 times, to within an error.
-use Rattle.std.proofs.Common.{◌≡◌, ℕ, ◌+◌, ◌*◌, ◌<◌, ◌≤◌, List, length, refl, ap, inl, inr, arith, ℤ, pos, ◌+ℤ◌, ◌-ℤ◌, ◌*ℤ◌, unsigned_abs}
+use Rattle.std.proofs.Common.{◌≡◌, ℕ, ◌+◌, ◌*◌, ◌<◌, ◌≤◌, List, length, refl, ap, sym, subst, inl, inr, arith, ℤ, pos, ◌+ℤ◌, ◌-ℤ◌, ◌*ℤ◌, unsigned_abs}
 use Rattle.std.proofs.lemmas.Bool.{cases_lt}
 use Rattle.std.proofs.lemmas.Int.{ints}
 use Rattle.std.proofs.lemmas.List.{get_or_past}
 use Rattle.std.proofs.lemmas.List.FromFn.{length-map-range_with_len}
+use Rattle.integer_laws.proofs.Order.{pos-le}
 use Rattle.integer_laws.proofs.Ring.{ring, number, ◌⊕◌, ◌⊖◌, ◌⊗◌, ◌≗◌}
 use Rattle.fixed_complex.specs.declared.Cx.{Cx}
 use Rattle.fixed_complex.specs.declared.Sample.{Sample}
-use Rattle.fixed_complex.specs.PairLists.{PairsWithin, entry}
-use Rattle.fixed_complex.specs.Pairs.{IsWithin, minus, multiple, times}
+use Rattle.fixed_complex.specs.PairLists.{entry}
+use Rattle.fixed_complex.specs.Pairs.{IsOfSize, IsWithin, times}
 use Rattle.fixed_complex.specs.Samples.{sample_at}
-use Rattle.fixed_complex.proofs.PairLists.{entry-map, everywhere_within}
-use Rattle.fixed_complex.proofs.PairSizes.{wider}
+use Rattle.fixed_complex.proofs.PairLists.{entry-map}
 use Rattle.fixed_complex.proofs.Pairs.{same_parts}
 use Rattle.plain_waves.specs.Bodies.{all_times, plain_body}
 use Rattle.plain_waves.specs.Bounds.{FitASample}
+use Rattle.plain_waves.specs.Nearness.{AreNearPlain}
 use Rattle.plain_waves.proofs.Loads.{plain_within}
 use Rattle.plain_waves.proofs.Places.{plain_body-local}
 use Rattle.carrier_equaliser.specs.Received.{pair_at, received}
-use Rattle.carrier_equaliser.proofs.ComingBack.{comes_back, received_are_near}
-use Rattle.decided_axis.specs.Channels.{IsCarried}
+use Rattle.carrier_equaliser.specs.Nearness.{IsNearWave}
+use Rattle.carrier_equaliser.proofs.ComingBack.{received_are_near}
+use Rattle.decided_axis.specs.Bodies.{FitABody}
+use Rattle.decided_axis.specs.Channels.{AreCarried}
+use Rattle.decided_axis.proofs.Waves.{carried_by_one}
 use Rattle.symbols_in_noise.specs.Laws.{IsNearBody}
 
 -- a body depends on its 64 bins alone
@@ -52,18 +56,31 @@ of_16_bits bound xs samples most fits near n =
 abbrev pub one : Cx
 one = record { re = pos 1; im = pos 0 }
 
-alone : (y x : Cx) → minus (multiple (pos 1) y) (multiple (pos 32) (times x one)) ≡ minus y (multiple (pos 32) x)
+alone : (x : Cx) → times one x ≡ x
 unfolding times
-alone y x = same_parts _ _ (re y.re x.re x.im) (im y.im x.re x.im)
+alone x = same_parts _ _ (re x.re x.im) (im x.re x.im)
   where
-    re : (y x w : ℤ) → pos 1 *ℤ y -ℤ pos 32 *ℤ (x *ℤ pos 1 -ℤ w *ℤ pos 0) ≡ y -ℤ pos 32 *ℤ x
-    re = ring 3 (λ y x w. number (pos 1) ⊗ y ⊖ number (pos 32) ⊗ (x ⊗ number (pos 1) ⊖ w ⊗ number (pos 0)) ≗ y ⊖ number (pos 32) ⊗ x) refl
+    re : (x y : ℤ) → pos 1 *ℤ x -ℤ pos 0 *ℤ y ≡ x
+    re = ring 2 (λ x y. number (pos 1) ⊗ x ⊖ number (pos 0) ⊗ y ≗ x) refl
 
-    im : (y x w : ℤ) → pos 1 *ℤ y -ℤ pos 32 *ℤ (x *ℤ pos 0 +ℤ w *ℤ pos 1) ≡ y -ℤ pos 32 *ℤ w
-    im = ring 3 (λ y x w. number (pos 1) ⊗ y ⊖ number (pos 32) ⊗ (x ⊗ number (pos 0) ⊕ w ⊗ number (pos 1)) ≗ y ⊖ number (pos 32) ⊗ w) refl
+    im : (x y : ℤ) → pos 1 *ℤ y +ℤ pos 0 *ℤ x ≡ y
+    im = ring 2 (λ x y. number (pos 1) ⊗ y ⊕ number (pos 0) ⊗ x ≗ y) refl
 
-pub carried : (bound : ℕ) (xs : List Cx) (samples : List Sample) → bound ≤ 64 → PairsWithin 954 xs → FitASample xs → IsNearBody bound (entry xs) samples → (bin : ℕ) → bin < 64 → IsCarried 1 (91 * bound + 70) one (entry xs bin) (entry (received samples) bin)
-carried bound xs samples most within fits near bin lt =
-    let sums = received_are_near samples (of_16_bits bound xs samples most fits near) in
-    let back = comes_back bound (entry xs) samples (received samples) (λ bin lt. everywhere_within 954 xs within bin) near sums bin lt in
-    record { near = rw (alone (entry (received samples) bin) (entry xs bin)) (wider (91 * bound + 70) (1 * (91 * bound + 70)) _ (omega arith) back) }
+one_small : IsOfSize 1 one
+one_small = record { size = pos-le 1 1 (omega arith) }
+
+-- samples near the plain body of what 64 bins carry
+module _ (bound : ℕ) (sent : ℕ → Cx) (samples : List Sample) (most : bound ≤ 64) (fit : FitABody sent) (near : IsNearBody bound sent samples) where
+  small : (n : ℕ) → IsWithin 32768 (pair_at samples n)
+  small =
+      let same : (bin : ℕ) → bin < 64 → sent bin ≡ entry (all_times sent) bin = λ bin lt. sym (entry-map sent 64 bin lt) in
+      of_16_bits bound (all_times sent) samples most fit.fits (subst (AreNearPlain bound samples) (same_body sent (entry (all_times sent)) same) near)
+
+  near_wave : IsNearWave 1 bound (λ n. times one (plain_body sent n)) samples
+  near_wave n lt =
+      let here : n < length samples = omega (arith, near.long, length-map-range_with_len (plain_body sent) 0 64) in
+      let part = rw (entry-map (plain_body sent) 64 n lt) at (near.each n here) in
+      rw (alone (plain_body sent n)) (record { re = omega (arith, part.i); im = omega (arith, part.q) })
+
+  pub carried : AreCarried 1 (91 * bound + 70) (λ _. one) sent (received samples)
+  carried = carried_by_one 1 bound 1 one sent samples (received samples) (omega arith) one_small (omega arith) fit.within near_wave (received_are_near samples small)
