@@ -100,11 +100,11 @@ pub fn bytes_of(alloc: Global, bits: &[u8]) -> Result<Octets, AllocError>
     Ok(Octets::from_vec(items))
 }
 
-// The octet of eight bits.
-fn octet_of(bits: &[u8]) -> u8
+/// The octet of eight bits, the least significant bit first (clause 18). Takes no memory.
+pub fn octet_of(bits: &[u8]) -> u8
     requires bits { AreBits bits.now }
     requires eight { length bits.now ≡ 8 }
-    ensures { result ≡ octet_at bits.now 0 }
+    ensures value { result ≡ octet_at bits.now 0 }
 {
     bits[0]
         + 2 * bits[1]

@@ -8,6 +8,7 @@ use Rattle.rand_pcg.specs.Lcg.{Lcg, advance, increment_of, next, next_state, sta
 use Rattle.rand_pcg.specs.Pcg.{multiplier_64, pcg32}
 use Rattle.rand_pcg.proofs.LcgLemmas.{advance_zero}
 use Rattle.rate_table.proofs.ByRate.{by_rate}
+use Rattle.rate_table.proofs.SymbolCounts.{few_symbols}
 use Rattle.rate_table.specs.declared.Rate.{Rate}
 use Rattle.rate_table.specs.Symbols.{IsLength, symbol_count}
 use Rattle.rate_table.specs.Table.{rate_at, row_of}
@@ -86,10 +87,5 @@ noise_bound_from =
     by_rate (λ rate. (8 ≤ (row_of rate).noise_bound) × ((row_of rate).noise_bound ≤ 64))
     (lit≤ tt, lit≤ tt) (lit≤ tt, lit≤ tt) (lit≤ tt, lit≤ tt) (lit≤ tt, lit≤ tt) (lit≤ tt, lit≤ tt) (lit≤ tt, lit≤ tt) (lit≤ tt, lit≤ tt) (lit≤ tt, lit≤ tt)
 
-symbols_most : (rate : Rate) (octets : ℕ) → octets ≤ 4095 → symbol_count (row_of rate).field_bits octets ≤ 1366
-symbols_most rate octets most =
-    by_rate (λ r. symbol_count (row_of r).field_bits octets ≤ 1366)
-    (omega arith) (omega arith) (omega arith) (omega arith) (omega arith) (omega arith) (omega arith) (omega arith) rate
-
 pub samples_most : (frame : SentFrame) → IsLength (length frame.psdu) → samples_of frame ≤ 109680
-samples_most frame long = let symbols = symbols_most frame.rate (length frame.psdu) long.1 in omega arith
+samples_most frame long = let symbols = few_symbols frame.rate (length frame.psdu) long.1 in omega arith

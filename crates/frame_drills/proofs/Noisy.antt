@@ -10,6 +10,7 @@ use Rattle.fixed_complex.specs.PairLists.{entry}
 use Rattle.fixed_complex.specs.Pairs.{zero_pair}
 use Rattle.fixed_complex.specs.Samples.{IsSampleWithin, sample_at}
 use Rattle.lane_kernels.specs.Kernels.{held, held_sum, held_sums}
+use Rattle.lane_kernels.proofs.HeldSums.{held_sums-at, length-held_sums}
 use Rattle.noise_script.specs.Effects.{after_items, silence}
 use Rattle.noise_script.specs.Noise.{generator_of, noise_samples}
 use Rattle.noise_script.specs.declared.Item.{Item}
@@ -44,20 +45,11 @@ sum_near bound more size sample noise plain near within loud fits =
     (record { i = omega (arith, ints, near.i, loud.i); q = omega (arith, ints, near.q, loud.q) })
 
 -- a list of samples with noise, place by place
-length-sums : (samples noise : List Sample) → length samples ≡ length noise → length (held_sums samples noise) ≡ length samples
-unfolding held_sums
-length-sums [] noise long = refl
-length-sums (sample ∷ samples) [] long = absurd (omega arith)
-length-sums (sample ∷ samples) (first ∷ noise) long = ap suc (length-sums samples noise (omega arith))
-
 sums_near : (bound more size : ℕ) (samples noise : List Sample) (k : ℕ) (plain : Cx) → length samples ≡ length noise → k < length samples → IsNearPlain bound (sample_at samples k) plain → IsSampleWithin size (sample_at samples k)
     → IsSampleWithin more (sample_at noise k) → size + more ≤ 32767 → IsNearPlain (bound + more) (sample_at (held_sums samples noise) k) plain
-unfolding held_sums
-sums_near bound more size [] noise k plain long inside near within loud fits = absurd (omega arith)
-sums_near bound more size (sample ∷ samples) [] k plain long inside near within loud fits = absurd (omega arith)
-sums_near bound more size (sample ∷ samples) (first ∷ noise) zero plain long inside near within loud fits = sum_near bound more size sample first plain near within loud fits
-sums_near bound more size (sample ∷ samples) (first ∷ noise) (suc k) plain long inside near within loud fits =
-    sums_near bound more size samples noise k plain (omega arith) (omega arith) near within loud fits
+sums_near bound more size samples noise k plain long inside near within loud fits =
+    subst (λ sum. IsNearPlain (bound + more) sum plain) (sym (held_sums-at samples noise k long inside))
+    (sum_near bound more size (sample_at samples k) (sample_at noise k) plain near within loud fits)
 
 silent_near : (bound : ℕ) → IsNearPlain bound silent zero_pair
 silent_near bound = record { i = omega arith; q = omega arith }
@@ -96,7 +88,7 @@ module _ (frame : SentFrame) (more seed : ℕ) where
   front_noise = omega (arith, length-front, length-sent, length-noise more (frame.start + length sent) (generator_of seed))
 
   length-noisy : length (held_sums front noise) ≡ end_of_sent frame
-  length-noisy = length-sums front noise front_noise ∙ length-front
+  length-noisy = length-held_sums front noise front_noise ∙ length-front
 
   pub length-scripted : length (scripted more seed frame) ≡ end_of_sent frame + 100
   length-scripted =

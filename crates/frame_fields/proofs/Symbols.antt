@@ -11,6 +11,7 @@ use Rattle.rate_table.proofs.ByRate.{by_rate}
 use Rattle.rate_table.specs.declared.Rate.{Rate}
 use Rattle.rate_table.specs.Table.{row_of}
 use Rattle.rate_table.specs.Symbols.{symbol_count}
+use Rattle.rate_table.proofs.SymbolCounts.{few_symbols}
 
 -- a chunk of the bits of symbols, which comes off once m symbols came off, is symbol m
 pub record NextSymbol (coded : ℕ) (kept : List ℕ) (m : ℕ) (symbol rest : List ℕ) : Type 0 where
@@ -67,14 +68,9 @@ symbol_appended {A} of_symbol rate kept symbol before after m so_far is appended
 pub some_coded : (rate : Rate) → 0 < (row_of rate).coded_bits
 some_coded rate = by_rate (λ r. 0 < (row_of r).coded_bits) (lit< tt) (lit< tt) (lit< tt) (lit< tt) (lit< tt) (lit< tt) (lit< tt) (lit< tt) rate
 
--- a frame has few symbols
-pub few_symbols : (rate : Rate) (octets : ℕ) → octets ≤ 4095 → symbol_count (row_of rate).field_bits octets ≤ 1400
-few_symbols rate octets short =
-    by_rate (λ r. symbol_count (row_of r).field_bits octets ≤ 1400) (omega arith) (omega arith) (omega arith) (omega arith) (omega arith) (omega arith) (omega arith) (omega arith) rate
-
--- so one symbol more is within them
+-- one symbol more is within those of a frame
 pub count_within : (rate : Rate) (octets n : ℕ) (kept : List ℕ) → octets ≤ 4095 → length kept ≡ symbol_count (row_of rate).field_bits octets * (row_of rate).coded_bits
-    → (n + 1) * (row_of rate).coded_bits ≤ length kept → n + 1 ≤ 1400
+    → (n + 1) * (row_of rate).coded_bits ≤ length kept → n + 1 ≤ 1366
 count_within rate octets n kept short whole within =
     let most = le_of_mul-le-mul_right {m = n + 1} {n = symbol_count (row_of rate).field_bits octets} {k = (row_of rate).coded_bits} (omega (arith, within, whole)) (some_coded rate) in
     omega (arith, most, few_symbols rate octets short)

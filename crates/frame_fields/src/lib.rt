@@ -89,10 +89,9 @@ pub fn decode_field(
     })
 }
 
-/// The number that names the front of a field of so many octets, 1 to 4095, and its PSDU, from its bits up to the end of
+/// The number that names the front of a field of so many octets and its PSDU, from its bits up to the end of
 /// the tail (18.3.5.5; own). The bits are descrambled in place. The only error is want of memory.
 pub fn read_field(alloc: Global, octets: u16, bits: &mut [u8]) -> Result<(u8, Octets), AllocError>
-    requires octets { IsLength octets }
     requires bits { AreBits bits.old }
     requires long { length bits.old ≡ bits_through_tail octets }
     ensures names { IfOk result (λ read. NamesFront read.0 bits.old) }

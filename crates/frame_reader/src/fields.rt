@@ -1,6 +1,6 @@
 //! The field of a frame, once all its symbols were heard.
 ghost use Rattle.std.specs.Prelude.{◌≡◌, ℕ, ◌+◌, ◌*◌, ◌<◌, ◌≤◌, List, [], length, take, drop};
-ghost use Rattle.bit_lists.specs.Bits.{AreBits, octet_at, octets_of_bits};
+ghost use Rattle.bit_lists.specs.Bits.{AreBits, octets_of_bits};
 ghost use Rattle.frame_fields.specs.Fields.{NamesFront, psdu_in};
 ghost use Rattle.frame_reader.specs.Frames.{HasField, data_decisions, symbols_of};
 ghost use Rattle.rate_table.specs.declared.Rate.{Rate};
@@ -9,6 +9,7 @@ ghost use Rattle.rate_table.specs.Table.{row_of};
 ghost use Rattle.viterbi_lanes.specs.Decisions.{marks_of};
 ghost use Rattle.viterbi_lanes.specs.Marks.{StandsFor};
 
+use bit_lists::octet_of;
 use ofdm_scrambler::{descramble_in_place, seed_of_front};
 use signal_field::Header;
 use viterbi_lanes::Trellis;
@@ -72,20 +73,4 @@ fn put_octets(bits: &[u8], octets: &mut [u8])
     for k in 0..octets.len() {
         octets[k] = octet_of(&bits[8 * k..8 * k + 8]);
     }
-}
-
-// The octet of eight bits.
-fn octet_of(bits: &[u8]) -> u8
-    requires bits { AreBits bits.now }
-    requires eight { length bits.now ≡ 8 }
-    ensures { result ≡ octet_at bits.now 0 }
-{
-    bits[0]
-        + 2 * bits[1]
-        + 4 * bits[2]
-        + 8 * bits[3]
-        + 16 * bits[4]
-        + 32 * bits[5]
-        + 64 * bits[6]
-        + 128 * bits[7]
 }

@@ -9,4 +9,5 @@ pub mod Masks
 pub mod Scans
 pub mod Extremes
 pub mod Holding
+pub mod HeldSums
 pub mod Storing

@@ -10,6 +10,7 @@ use Rattle.lane_kernels.specs.Kernels.{held, held_sum, held_sums}
 use Rattle.lane_kernels.specs.Lanes.{HoldsSums, components_of, eight}
 use Rattle.fixed_complex.specs.Numbers.{number_at}
 use Rattle.fixed_complex.specs.Samples.{sample_at}
+use Rattle.lane_kernels.proofs.HeldSums.{held_sums-at, length-held_sums}
 use Rattle.lane_kernels.proofs.Holding.{held-fits}
 use Rattle.lane_kernels.proofs.FourLanes.{first_four}
 use Rattle.lane_kernels.proofs.Totals.{eight-at}
@@ -75,19 +76,6 @@ saturated_sum r a b a_fits b_fits is =
     rw here (to_z-of_z w16 (held (a +ℤ b)) (held-fits (a +ℤ b)))
 
 -- the whole list
-length-held_sums : (xs ys : List Sample) → length xs ≡ length ys → length (held_sums xs ys) ≡ length xs
-unfolding held_sums
-length-held_sums [] ys h = refl
-length-held_sums (x ∷ xs) [] h = absurd (omega arith)
-length-held_sums (x ∷ xs) (y ∷ ys) h = ap suc (length-held_sums xs ys (omega arith))
-
-held_sums-at : (xs ys : List Sample) (n : ℕ) → length xs ≡ length ys → n < length xs → sample_at (held_sums xs ys) n ≡ held_sum (sample_at xs n) (sample_at ys n)
-unfolding held_sums
-held_sums-at [] ys n h below = absurd (omega arith)
-held_sums-at (x ∷ xs) [] n h below = absurd (omega arith)
-held_sums-at (x ∷ xs) (y ∷ ys) zero h below = refl
-held_sums-at (x ∷ xs) (y ∷ ys) (suc n) h below = held_sums-at xs ys n (omega arith) (omega arith)
-
 pub sums-whole : (old b new : List Sample) (upto : ℕ) → upto ≡ length old → length old ≡ length b → length new ≡ length old → HoldsSums 0 upto old b new → new ≡ held_sums old b
 sums-whole old b new upto e h len sums =
     ext_get_or (record { i = pos 0; q = pos 0 }) new (held_sums old b) (omega (arith, length-held_sums old b h))

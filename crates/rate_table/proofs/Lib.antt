@@ -1,1 +1,2 @@
 pub mod ByRate
+pub mod SymbolCounts

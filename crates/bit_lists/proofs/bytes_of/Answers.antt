@@ -13,7 +13,7 @@ loop-k-preserved c =
     let size : (8 * k + 8) - 8 * k ≡ 8 = omega arith in
     c.in_ok-push.ensures.items
     ∙ ap (λ front. front ++ c.octet_of.result ∷ []) c.loop-k.invariant
-    ∙ ap (λ last. map of_place (range_with_len 0 k) ++ last ∷ []) (c.octet_of.ensures ∙ octet_of_part bits (8 * k) ((8 * k + 8) - 8 * k) size)
+    ∙ ap (λ last. map of_place (range_with_len 0 k) ++ last ∷ []) (c.octet_of.ensures.value ∙ octet_of_part bits (8 * k) ((8 * k + 8) - 8 * k) size)
     ∙ sym (map-range_with_len_more of_place 0 k k (omega arith))
 
 value : (c : goal.After-from_vec) → c.from_vec.result ≡ octets_of_bits c.args.bits.now

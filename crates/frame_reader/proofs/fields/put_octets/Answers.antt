@@ -16,7 +16,7 @@ loop-k-preserved c =
     let within : k < length octets = omega arith in
     take_more_set octets k c.octet_of.result within
     ∙ ap (λ front. front ++ c.octet_of.result ∷ []) c.loop-k.invariant
-    ∙ ap (λ last. map of_place (range_with_len 0 k) ++ last ∷ []) (c.octet_of.ensures ∙ octet_of_part bits (8 * k) ((8 * k + 8) - 8 * k) size)
+    ∙ ap (λ last. map of_place (range_with_len 0 k) ++ last ∷ []) (c.octet_of.ensures.value ∙ octet_of_part bits (8 * k) ((8 * k + 8) - 8 * k) size)
     ∙ sym (map-range_with_len_more of_place 0 k k (omega arith))
 
 pub returns : goal.returns
