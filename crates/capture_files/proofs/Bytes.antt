@@ -65,6 +65,10 @@ length-bytes_of_samples [] = refl
 length-bytes_of_samples (sample ∷ samples) =
     omega (arith, length-append (bytes_of_sample sample) (bytes_of_samples samples), length-bytes_of_sample sample, length-bytes_of_samples samples)
 
+-- .. and those of a sample that isn't whole
+pub length-bytes_so_far : (samples : List Sample) (held : List ℕ) → length (bytes_of_samples samples ++ held) ≡ 4 * length samples + length held
+length-bytes_so_far samples held = omega (arith, length-append (bytes_of_samples samples) held, length-bytes_of_samples samples)
+
 -- no other component has the same bytes
 component_alike : (a b : ℤ) → FitsSigned w16 a → FitsSigned w16 b → byte_at 0 (cast_unsigned w16 a) ≡ byte_at 0 (cast_unsigned w16 b) → byte_at 1 (cast_unsigned w16 a) ≡ byte_at 1 (cast_unsigned w16 b) → a ≡ b
 component_alike a b p q low high =

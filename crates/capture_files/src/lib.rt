@@ -1,10 +1,10 @@
 //! Capture files: samples as bytes, four a sample, without header or trailer (own).
 #![tactic(auto)]
 
-ghost use Rattle.std.specs.Prelude.{◌≡◌, ◌+◌, ◌%◌, ◌*◌, ◌≤◌, ◌^◌, ◌++◌, ℕ, length, take, drop, IfOk, OnOk, OnErr, IsErrOf, alloc_error};
+ghost use Rattle.std.specs.Prelude.{◌≡◌, ◌+◌, ◌-◌, ◌%◌, ◌*◌, ◌≤◌, ◌^◌, [], ◌++◌, ℕ, Ok, length, take, drop, vec_len, IfOk, IfErr, OnOk, OnErr, IsErrOf, alloc_error};
 ghost use Rattle.modem_ports.specs.Counts.{Rose};
 ghost use Rattle.modem_ports.specs.Limits.{most_input};
-ghost use Rattle.modem_ports.specs.Told.{Gives, GivesAtMost, GivesExactly, IsAtEnd, Takes, TakesPrefix};
+ghost use Rattle.modem_ports.specs.Told.{Gives, GivesAtMost, GivesBehind, GivesExactly, IsAtEnd, Takes, TakesPrefix};
 ghost use Rattle.capture_files.specs.Captures.{IsTorn, bytes_of_sample, bytes_of_samples, samples_in};
 ghost use Rattle.fixed_complex.specs.Samples.{AreSamples, IsSample};
 ghost use Rattle.capture_files.specs.Faults.{fault_of};
@@ -12,7 +12,7 @@ ghost use Rattle.capture_files.specs.declared.CaptureFault.TheVariants.{NoMemory
 
 use byteorder::{ByteOrder, LittleEndian};
 use fixed_complex::Sample;
-use modem_ports::{Failed, MOST_INPUT, ReadAllFault, Sink, Source, read_all, write_all};
+use modem_ports::{Failed, MOST_INPUT, ReadAllFault, Sink, Source, write_all};
 use std::alloc::{AllocError, Global};
 use thiserror::Error;
 
@@ -26,8 +26,10 @@ pub use piecer::Piecer;
 // The bytes of a sample.
 const SAMPLE: usize = 4;
 
-// The bytes that are handed to a sink at once.
+// The bytes that are asked of a source, or handed to a sink, at once.
 const PIECE: usize = 4096;
+
+const SILENCE: Sample = Sample { i: 0, q: 0 };
 
 /// Why a capture was not read (own).
 #[derive(Debug, Drop, Error)]
@@ -98,13 +100,99 @@ pub fn read_capture<S: Source>(alloc: Global, source: &mut S) -> Result<Vec<Samp
     ensures taken { GivesAtMost (most_input + 1) (S.left source.old) (S.left source.new) }
     ensures counted { S.faults source.old ≤ S.faults source.new }
 {
-    let bytes = read_all(alloc, source, MOST_INPUT)?;
-    if bytes.len() % SAMPLE != 0 {
+    let mut samples = Vec::new(alloc);
+    let mut piecer = Piecer::new();
+    loop {
+        let count = read_piece(source, &mut piecer, &mut samples)?;
+        if count == 0 {
+            return whole_samples(samples, &piecer);
+        }
+    }
+}
+
+// Reads one more piece, and answers how many bytes it has: the samples that it makes whole come behind `samples`. It is
+// empty only at the end of input.
+fn read_piece<S: Source>(
+    source: &mut S,
+    piecer: &mut Piecer,
+    samples: &mut Vec<Sample>,
+) -> Result<usize, CaptureFault>
+    requires short { 4 * vec_len samples.old + length piecer.old ≤ most_input }
+    requires samples { AreSamples samples.old.items }
+    ensures given { OnOk result (GivesBehind
+        (S.left source.old) (bytes_of_samples samples.old.items ++ piecer.old)
+        (S.left source.new) (bytes_of_samples samples.new.items ++ piecer.new)) }
+    ensures samples { OnOk result (AreSamples samples.new.items) }
+    ensures count { IfOk result (λ n. 4 * vec_len samples.new + length piecer.new
+        ≡ 4 * vec_len samples.old + length piecer.old + n) }
+    ensures within { OnOk result (4 * vec_len samples.new + length piecer.new ≤ most_input) }
+    ensures end { result ≡ Ok 0 → IsAtEnd (S.left source.new) }
+    ensures no_torn { (bytes : ℕ) → ¬ IsErrOf result (CaptureFault.Torn bytes) }
+    ensures long { IsErrOf result CaptureFault.Long
+        → GivesExactly (most_input + 1 - (4 * vec_len samples.old + length piecer.old))
+        (S.left source.old) (S.left source.new) }
+    ensures failed { IsErrOf result CaptureFault.Failed
+        → Rose (S.faults source.old) (S.faults source.new) }
+    ensures kept { IsErrOf result CaptureFault.Failed → S.left source.new ≡ S.left source.old }
+    ensures no_memory_within { IsErrOf result (CaptureFault.NoMemory alloc_error)
+        → GivesAtMost (most_input - (4 * vec_len samples.old + length piecer.old))
+        (S.left source.old) (S.left source.new) }
+    ensures taken { GivesAtMost (most_input + 1 - (4 * vec_len samples.old + length piecer.old))
+        (S.left source.old) (S.left source.new) }
+    ensures counted { S.faults source.old ≤ S.faults source.new }
+{
+    let mut piece = [0; PIECE];
+    let room = MOST_INPUT - (SAMPLE * samples.len() + usize::from(piecer.rest()));
+    let most = PIECE.min(room + 1);
+    let Ok(count) = source.read(&mut piece[..most]) else {
+        return Err(CaptureFault::Failed);
+    };
+    if count > room {
+        return Err(CaptureFault::Long);
+    }
+    push_whole(piecer, samples, &piece[..count])?;
+    Ok(count)
+}
+
+// Takes the bytes of a piece, at most 4096: the samples that they make whole come behind `samples`.
+fn push_whole(
+    piecer: &mut Piecer,
+    samples: &mut Vec<Sample>,
+    bytes: &[u8],
+) -> Result<(), AllocError>
+    requires few { length bytes.now ≤ 4096 }
+    requires samples { AreSamples samples.old.items }
+    ensures bytes { OnOk result (bytes_of_samples samples.new.items ++ piecer.new
+        ≡ (bytes_of_samples samples.old.items ++ piecer.old) ++ bytes.now) }
+    ensures samples { OnOk result (AreSamples samples.new.items) }
+    ensures count { OnOk result (4 * vec_len samples.new + length piecer.new
+        ≡ 4 * vec_len samples.old + length piecer.old + length bytes.now) }
+{
+    let mut made = [SILENCE; PIECE / SAMPLE];
+    // fewer than four bytes are held
+    let _held = piecer.rest();
+    let whole = piecer.feed_all(bytes, &mut made);
+    samples.extend_from_slice(&made[..whole])
+}
+
+// The samples of a capture that ended, where no sample is begun.
+fn whole_samples(samples: Vec<Sample>, piecer: &Piecer) -> Result<Vec<Sample>, CaptureFault>
+    requires { 4 * vec_len samples + length piecer.now ≤ most_input }
+    ensures samples { IfOk result (λ whole. whole.items ≡ samples.items) }
+    ensures none { IfOk result (λ _. piecer.now ≡ []) }
+    ensures torn { IfErr result (λ fault.
+        fault ≡ CaptureFault.Torn (4 * vec_len samples + length piecer.now)) }
+    ensures bytes { (bytes : ℕ) → IsErrOf result (CaptureFault.Torn bytes)
+        → bytes ≡ 4 * vec_len samples + length piecer.now }
+    ensures not_whole { (bytes : ℕ) → IsErrOf result (CaptureFault.Torn bytes) → IsTorn bytes }
+{
+    let begun = usize::from(piecer.rest());
+    if begun != 0 {
         return Err(CaptureFault::Torn {
-            bytes: bytes.len() as u32,
+            bytes: (SAMPLE * samples.len() + begun) as u32,
         });
     }
-    Ok(samples_of(alloc, &bytes)?)
+    Ok(samples)
 }
 
 /// The samples that bytes are: four a sample, I and then Q, signed numbers of 16 bits, the low byte first (own). 4
@@ -122,6 +210,18 @@ pub fn samples_of(alloc: Global, bytes: &[u8]) -> Result<Vec<Sample>, AllocError
         samples.push(sample_of(&bytes[SAMPLE * k..SAMPLE * k + SAMPLE]))?;
     }
     Ok(samples)
+}
+
+// Writes the samples that bytes are, as many as there is room for: four bytes each.
+fn put_whole(bytes: &[u8], out: &mut [Sample])
+    requires { length bytes.now ≡ 4 * length out.old }
+    ensures bytes { bytes_of_samples out.new ≡ bytes.now }
+    ensures samples { AreSamples out.new }
+    ensures long { length out.new ≡ length out.old }
+{
+    for k in 0..out.len() {
+        out[k] = sample_of(&bytes[SAMPLE * k..SAMPLE * k + SAMPLE]);
+    }
 }
 
 // The sample of four bytes.

@@ -1,9 +1,9 @@
 //! Samples of bytes as they come.
-ghost use Rattle.std.specs.Prelude.{◌≡◌, ◌↔◌, ◌<◌, ◌≤◌, [], ◌∷◌, ◌++◌, None, length, IfNone, IfSome};
-ghost use Rattle.capture_files.specs.Captures.{bytes_of_sample};
-ghost use Rattle.fixed_complex.specs.Samples.{IsSample};
+ghost use Rattle.std.specs.Prelude.{◌≡◌, ◌≢◌, ◌↔◌, ◌+◌, ◌*◌, ◌<◌, ◌≤◌, [], ◌∷◌, ◌++◌, None, length, take, IfNone, IfSome};
+ghost use Rattle.capture_files.specs.Captures.{bytes_of_sample, bytes_of_samples};
+ghost use Rattle.fixed_complex.specs.Samples.{AreSamples, IsSample};
 
-use crate::{SAMPLE, sample_of};
+use crate::{SAMPLE, put_whole, sample_of};
 use fixed_complex::Sample;
 use std::marker::Model;
 
@@ -55,6 +55,63 @@ impl Piecer {
         }
         self.count = 0;
         Some(sample_of(&self.bytes))
+    }
+
+    /// Takes the next bytes, writes the samples that they make whole to the front of `out`, in order, and
+    /// answers how many these are; the bytes behind the last one are held. `out` has room for a sample of
+    /// every four of the bytes held and these. What is behind these samples in `out` is unchanged. Takes
+    /// no memory.
+    pub fn feed_all(&mut self, bytes: &[u8], out: &mut [Sample]) -> usize
+        requires { length self.old + length bytes.now ≤ 4 * length out.old + 3 }
+        ensures bytes { bytes_of_samples (take result out.new) ++ self.new ≡ self.old ++ bytes.now }
+        ensures samples { AreSamples (take result out.new) }
+        ensures within { result ≤ length out.new }
+        ensures long { length out.new ≡ length out.old }
+    {
+        let begun = self.wanted().min(bytes.len());
+        let mut count = 0;
+        if let Some(sample) = self.feed_some(&bytes[..begun]) {
+            out[0] = sample;
+            count = 1;
+        }
+        let whole = (bytes.len() - begun) / SAMPLE;
+        let end = begun + SAMPLE * whole;
+        put_whole(&bytes[begun..end], &mut out[count..count + whole]);
+        let _behind = self.feed_some(&bytes[end..]);
+        count + whole
+    }
+
+    // How many bytes make a sample whole that is begun: none where none is.
+    fn wanted(&self) -> usize
+        ensures begun { self.now ≢ [] → result + length self.now ≡ 4 }
+        ensures none { self.now ≡ [] → result ≡ 0 }
+        ensures few { length self.now < 4 }
+    {
+        if self.count == 0 {
+            0
+        } else {
+            SAMPLE - self.count
+        }
+    }
+
+    // Takes the next bytes, which make at most one sample whole.
+    fn feed_some(&mut self, bytes: &[u8]) -> Option<Sample>
+        requires few { length self.old < 4 }
+        requires at_most { length self.old + length bytes.now ≤ 4 }
+        ensures none { (result ≡ None) ↔ (length self.old + length bytes.now < 4) }
+        ensures held { IfNone result (self.new ≡ self.old ++ bytes.now) }
+        ensures bytes { IfSome result
+            (λ sample. bytes_of_sample sample ≡ self.old ++ bytes.now) }
+        ensures sample { IfSome result IsSample }
+        ensures emptied { IfSome result (λ _. self.new ≡ []) }
+    {
+        for k in 0..bytes.len() {
+            let sample = self.feed(bytes[k]);
+            if sample.is_some() {
+                return sample;
+            }
+        }
+        None
     }
 
     /// How many bytes are held, 0 to 3. Takes no memory.
