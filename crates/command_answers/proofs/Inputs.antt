@@ -1,9 +1,13 @@
 -- Outcomes of inputs.
-use Rattle.std.proofs.Common.{◌≡◌, ◌<◌, ◌≤◌, ◌⊎◌, inl, inr, ℕ, ◌+◌, ◌%◌, List, [], ◌++◌, length, length-append, Option, Some, None, Result, Ok, Err, Vec, Global, refl, sym, ap, ◌∙◌, subst, arith}
+use Rattle.std.proofs.Common.{◌≡◌, ◌<◌, ◌≤◌, ◌⊎◌, inl, inr, ℕ, ◌+◌, ◌%◌, List, [], ◌++◌, length, length-append, Option, Some, None, Result, Ok, Err, Vec, Global, vec_len, ◌^◌, refl, sym, ap, ◌∙◌, subst, arith}
 use Rattle.std.proofs.lemmas.Bool.{cases_eq, cases_lt}
 use Rattle.std.specs.Option.{IfSome}
 use Rattle.std.specs.Result.{IfErr}
-use Rattle.capture_files.specs.Captures.{IsTorn}
+use Rattle.capture_files.specs.Captures.{IsTorn, bytes_of_samples}
+use Rattle.capture_files.proofs.Bytes.{length-bytes_of_samples}
+use Rattle.capture_files.specs.declared.CaptureFault.{CaptureFault}
+use Rattle.capture_files.specs.declared.CaptureFault.TheVariants as capture
+use Rattle.fixed_complex.specs.declared.Sample.{Sample}
 use Rattle.modem_ports.specs.declared.whole.ReadAllFault.{ReadAllFault}
 use Rattle.modem_ports.specs.declared.whole.ReadAllFault.TheVariants as fault
 use Rattle.modem_ports.specs.Limits.{most_input}
@@ -12,10 +16,11 @@ use Rattle.rate_table.specs.Symbols.{most_octets}
 use Rattle.report_lines.specs.declared.Refusal.{Refusal}
 use Rattle.report_lines.specs.declared.Refusal.TheVariants.{EmptyPsdu, LongPsdu, TornCapture, LongCapture}
 use Rattle.report_lines.specs.Refusals.{IsDecided, reading, status_of, step_of}
+use Rattle.command_answers.specs.declared.reading.Input.TheVariants as input
 use Rattle.command_answers.specs.declared.reading.Reading.{Reading}
 use Rattle.command_answers.specs.declared.reading.Reading.TheVariants.{Nothing, Psdu, Bytes, Capture}
 use Rattle.command_answers.specs.InOrder.{Outcome, Refuses, passed, refused}
-use Rattle.command_answers.specs.Inputs.{IsAccepted, IsInput, OfInput, RefusesInput, refusal_of_fault}
+use Rattle.command_answers.specs.Inputs.{HasForm, IsAccepted, IsInput, OfInput, RefusesInput, refusal_of_capture_fault, refusal_of_fault}
 use Rattle.command_answers.proofs.InOrder.{AllAre, AtLeastOne, AtMostOne, unless_all, unless_one, unless_some, unless_to}
 
 -- a number is above a limit or not
@@ -88,19 +93,12 @@ bytes_not_whole (Some bytes) left' fault.Long long decided = refused (over_limit
 bytes_not_whole (Some bytes) left' fault.Failed long decided = absurd decided
 bytes_not_whole (Some bytes) left' (fault.NoMemory want) long decided = absurd decided
 
-pub capture_not_whole : (left left' : Option (List ℕ)) (why : ReadAllFault) → (why ≡ fault.Long → GivesExactly (most_input + 1) left left')
-    → IsDecided (status_of (refusal_of_fault LongCapture why)) → IfSome left (RefusesInput Capture (refusal_of_fault LongCapture why))
-capture_not_whole None left' why long decided = tt
-capture_not_whole (Some bytes) left' fault.Long long decided = refused (over_limit most_input (Some bytes) left' (long refl)) refl
-capture_not_whole (Some bytes) left' fault.Failed long decided = absurd decided
-capture_not_whole (Some bytes) left' (fault.NoMemory want) long decided = absurd decided
-
 -- what was given of a source up to its end is all that was left of it
 gave_all : (bytes read after : List ℕ) → bytes ≡ read ++ after → length after ≡ 0 → length bytes ≡ length read
 gave_all bytes read after gives end = ap length gives ∙ length-append read after ∙ omega (arith, end)
 
 -- a PSDU with no octet is refused
-pub psdu_is_empty : (left left' : Option (List ℕ)) (psdu : List ℕ) (result : Result (Vec ℕ Global) Refusal) → Gives left psdu left' → IsAtEnd left'
+pub psdu_is_empty : {A : Type 0} (left left' : Option (List ℕ)) (psdu : List ℕ) (result : Result A Refusal) → Gives left psdu left' → IsAtEnd left'
     → IfErr result (λ refusal. (refusal ≡ EmptyPsdu) × (length psdu ≡ 0)) → IfErr result (λ refusal. IsDecided (status_of refusal) → IfSome left (RefusesInput Psdu refusal))
 psdu_is_empty left left' psdu (Ok whole) gives end empty = tt
 psdu_is_empty None left' psdu (Err refusal) gives end empty = λ decided. tt
@@ -108,14 +106,27 @@ psdu_is_empty (Some bytes) None psdu (Err refusal) gives end empty = absurd give
 psdu_is_empty (Some bytes) (Some after) psdu (Err refusal) gives end empty = λ decided.
     refused (gave_all bytes psdu after gives (ap length end) ∙ empty.1) (ap Refuses empty.0)
 
--- .. and so is a torn capture
-pub capture_is_torn : (left left' : Option (List ℕ)) (capture : List ℕ) (result : Result (Vec ℕ Global) Refusal) → Gives left capture left' → IsAtEnd left' → length capture ≤ most_input
-    → IfErr result (λ refusal. (refusal ≡ TornCapture (length capture)) × IsTorn (length capture))
-    → IfErr result (λ refusal. IsDecided (status_of refusal) → IfSome left (RefusesInput Capture refusal))
-capture_is_torn left left' capture (Ok whole) gives end most torn = tt
-capture_is_torn None left' capture (Err refusal) gives end most torn = λ decided. tt
-capture_is_torn (Some bytes) None capture (Err refusal) gives end most torn = absurd gives
-capture_is_torn (Some bytes) (Some after) capture (Err refusal) gives end most torn = λ decided.
-    let same = gave_all bytes capture after gives (ap length end) in
-    passed (λ long. omega (arith, long, same, most))
-    (refused (rw same torn.1) (ap Refuses (torn.0 ∙ ap (λ n. TornCapture n) (sym same))))
+-- so many bytes that were given of a source up to its end are all that was left of it
+gave_exactly : (bytes after : List ℕ) (count : ℕ) → GivesExactly count (Some bytes) (Some after) → length after ≡ 0 → length bytes ≡ count
+gave_exactly bytes after count gives end = gave_all bytes gives.0 after gives.2 end ∙ gives.1
+
+-- a capture is refused, where it is known why it wasn't read whole
+pub capture_not_whole : (left left' : Option (List ℕ)) (why : CaptureFault) → (why ≡ capture.Long → GivesExactly (most_input + 1) left left')
+    → ((bytes : ℕ) → why ≡ capture.Torn bytes → IsTorn bytes × (bytes ≤ most_input) × GivesExactly bytes left left' × IsAtEnd left')
+    → IsDecided (status_of (refusal_of_capture_fault why)) → IfSome left (RefusesInput Capture (refusal_of_capture_fault why))
+capture_not_whole None left' why long torn decided = tt
+capture_not_whole (Some bytes) left' capture.Long long torn decided = refused (over_limit most_input (Some bytes) left' (long refl)) refl
+capture_not_whole (Some bytes) None (capture.Torn count) long torn decided = absurd (torn count refl).2.2
+capture_not_whole (Some bytes) (Some after) (capture.Torn count) long torn decided =
+    let is = torn count refl in
+    let same : length bytes ≡ count = gave_exactly bytes after count is.2 (ap length is.3) in
+    passed (λ over. omega (arith, over, same, is.1)) (refused (rw same is.0) (ap (λ n. Refuses (TornCapture n)) (sym same)))
+capture_not_whole (Some bytes) left' capture.Failed long torn decided = absurd decided
+capture_not_whole (Some bytes) left' (capture.NoMemory want) long torn decided = absurd decided
+
+-- samples that were read are few
+pub few_samples : (kind : Reading) (samples : Vec Sample Global) → HasForm kind (input.Samples samples) → IsAccepted kind (bytes_of_samples samples.items) → vec_len samples ≤ 2 ^ 24
+few_samples Nothing samples form accepted = absurd form
+few_samples Psdu samples form accepted = absurd form
+few_samples Bytes samples form accepted = absurd form
+few_samples Capture samples form accepted = omega (arith, accepted.0, samples.ok.0, length-bytes_of_samples samples.items)

@@ -1,6 +1,9 @@
 -- What a command reads, and what of the input alone is refused (own).
 use Rattle.std.specs.Prelude.{ℕ, ◌+◌, ◌%◌, ◌≡◌, ◌<◌, ◌≤◌, ◌⊎◌, List, [], length, Option, Some, None}
-use Rattle.capture_files.specs.Captures.{IsTorn}
+use Rattle.capture_files.specs.Captures.{IsTorn, bytes_of_samples}
+use Rattle.capture_files.specs.declared.CaptureFault.{CaptureFault}
+use Rattle.capture_files.specs.declared.CaptureFault.TheVariants as capture
+use Rattle.fixed_complex.specs.Samples.{AreSamples}
 use Rattle.modem_ports.specs.Counts.{Rose}
 use Rattle.modem_ports.specs.Limits.{most_input}
 use Rattle.modem_ports.specs.declared.whole.ReadAllFault.{ReadAllFault}
@@ -12,6 +15,8 @@ use Rattle.report_lines.specs.declared.Refusal.TheVariants.{EmptyPsdu, LongPsdu,
 use Rattle.report_lines.specs.Refusals.{answering, step_of, writing}
 use Rattle.command_words.specs.declared.Command.{Command}
 use Rattle.command_words.specs.declared.Command.TheVariants.{Bits, Decode, DecodeSoft, Send, SendList, Receive, Noise, Echo, Inspect, Drill, Show}
+use Rattle.command_answers.specs.declared.reading.Input.{Input}
+use Rattle.command_answers.specs.declared.reading.Input.TheVariants as input
 use Rattle.command_answers.specs.declared.reading.Reading.{Reading}
 use Rattle.command_answers.specs.declared.reading.Reading.TheVariants.{Nothing, Psdu, Bytes, Capture}
 use Rattle.command_answers.specs.InOrder.{Outcome, Refuses, Unless}
@@ -58,6 +63,22 @@ IsInput Psdu read bytes = read ≡ bytes
 IsInput Bytes read bytes = read ≡ bytes
 IsInput Capture read bytes = read ≡ bytes
 
+-- the bytes of an input that was read
+abbrev pub bytes_of_input : Input → List ℕ
+bytes_of_input (input.Bytes bytes) = bytes.items
+bytes_of_input (input.Samples samples) = bytes_of_samples samples.items
+
+-- an input has the form that is read: a capture is samples, all else bytes
+abbrev pub HasForm : Reading → Input → Type 0
+HasForm Capture (input.Bytes bytes) = ⊥
+HasForm Capture (input.Samples samples) = AreSamples samples.items
+HasForm Nothing (input.Bytes bytes) = Unit {0}
+HasForm Nothing (input.Samples samples) = ⊥
+HasForm Psdu (input.Bytes bytes) = Unit {0}
+HasForm Psdu (input.Samples samples) = ⊥
+HasForm Bytes (input.Bytes bytes) = Unit {0}
+HasForm Bytes (input.Samples samples) = ⊥
+
 -- what is read is accepted
 abbrev pub IsAccepted : Reading → List ℕ → Type 0
 IsAccepted Nothing read = Unit {0}
@@ -84,6 +105,13 @@ abbrev pub refusal_of_fault : Refusal → ReadAllFault → Refusal
 refusal_of_fault long fault.Long = long
 refusal_of_fault long fault.Failed = ReadFault
 refusal_of_fault long (fault.NoMemory want) = NoMemory
+
+-- .. and that of a capture
+abbrev pub refusal_of_capture_fault : CaptureFault → Refusal
+refusal_of_capture_fault (capture.Torn bytes) = TornCapture bytes
+refusal_of_capture_fault capture.Long = LongCapture
+refusal_of_capture_fault capture.Failed = ReadFault
+refusal_of_capture_fault (capture.NoMemory want) = NoMemory
 
 -- a run came past its reading: it isn't refused, or where the answer is found or written
 abbrev pub IsPast : Option Refusal → Type 0

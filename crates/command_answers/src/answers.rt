@@ -1,26 +1,25 @@
 //! What a command writes.
-ghost use Rattle.std.specs.Prelude.{◌≡◌, ◌≢◌, ◌⊎◌, ◌%◌, ◌≤◌, length, IfOk, IfErr, OnOk, OnErr};
-ghost use Rattle.capture_files.specs.Captures.{samples_in};
+ghost use Rattle.std.specs.Prelude.{◌≡◌, ◌≢◌, ◌⊎◌, ◌≤◌, ◌^◌, length, vec_len, IfOk, IfErr, OnOk, OnErr};
+ghost use Rattle.capture_files.specs.Captures.{bytes_of_samples};
 ghost use Rattle.command_answers.specs.Answers.{bytes_of_answer};
 ghost use Rattle.command_answers.specs.InOrder.{Refuses, Writes};
-ghost use Rattle.command_answers.specs.Inputs.{IsAccepted, reads};
+ghost use Rattle.command_answers.specs.Inputs.{HasForm, IsAccepted, bytes_of_input, reads};
 ghost use Rattle.command_answers.specs.Outcome.{AnswerOf};
 ghost use Rattle.command_answers.specs.Drilling.{HasDrilled};
 ghost use Rattle.command_answers.specs.Receiving.{HasReports};
 ghost use Rattle.command_words.specs.Asking.{command_of};
 ghost use Rattle.command_words.specs.Grammar.{IsFrom, IsInRange};
-ghost use Rattle.echo_taps.specs.Echoes.{echo_of};
+ghost use Rattle.fixed_complex.specs.Samples.{AreSamples};
 ghost use Rattle.modem_ports.specs.Counts.{Rose};
-ghost use Rattle.modem_ports.specs.Limits.{most_input};
 ghost use Rattle.modem_ports.specs.Told.{Takes, TakesPrefix};
 ghost use Rattle.noise_script.specs.Effects.{after_items};
 ghost use Rattle.report_lines.specs.Refusals.{answering, step_of};
 
 use crate::decoding::{decoded, soft_decoded};
 use crate::listing::listed;
-use capture_files::{samples_of, write_samples};
+use crate::reading::{Input, Reading};
+use capture_files::write_samples;
 use command_words::{Request, Stage};
-use echo_taps::Taps;
 use finding_lines::reports_text;
 use fixed_complex::Sample;
 use frame_drills::{drill, summary_text};
@@ -45,12 +44,35 @@ pub enum Answer {
 pub(crate) fn answer_of(
     alloc: Global,
     request: Request,
+    input: Input,
+    steps: &mut Steps,
+) -> Result<Answer, Refusal>
+    requires range { IsInRange (command_of request) }
+    requires accepted { IsAccepted (reads (command_of request)) (bytes_of_input input) }
+    requires form { HasForm (reads (command_of request)) input }
+    requires kept { request ≢ Request.Receive }
+    ensures ok { IfOk result (λ answer.
+        AnswerOf request (bytes_of_input input) (Writes (bytes_of_answer answer))) }
+    ensures refused { IfErr result (λ refusal. (refusal ≡ Refusal.NoMemory)
+        ⊎ ((step_of refusal ≡ answering)
+        × AnswerOf request (bytes_of_input input) (Refuses refusal))) }
+{
+    match input {
+        Input::Bytes(bytes) => answer_of_bytes(alloc, request, &bytes, steps),
+        Input::Samples(samples) => answer_of_capture(alloc, request, samples, steps),
+    }
+}
+
+// What a command writes that doesn't read a capture.
+fn answer_of_bytes(
+    alloc: Global,
+    request: Request,
     input: &[u8],
     steps: &mut Steps,
 ) -> Result<Answer, Refusal>
     requires range { IsInRange (command_of request) }
     requires accepted { IsAccepted (reads (command_of request)) input.now }
-    requires kept { request ≢ Request.Receive }
+    requires kind { reads (command_of request) ≢ Reading.Capture }
     ensures ok { IfOk result (λ answer.
         AnswerOf request input.now (Writes (bytes_of_answer answer))) }
     ensures refused { IfErr result (λ refusal. (refusal ≡ Refusal.NoMemory)
@@ -65,49 +87,56 @@ pub(crate) fn answer_of(
         Request::Send { rate, seed } => {
             Ok(Answer::Samples(frame_samples(alloc, rate, seed, input)?))
         }
-        Request::Noise { script } => Ok(Answer::Samples(noisy_samples(alloc, &script, input)?)),
         Request::SendList => listed(alloc, input),
-        Request::Echo { taps } => Ok(Answer::Samples(echoed_samples(alloc, &taps, input)?)),
-        Request::Receive => unreachable!(),
-        Request::Inspect => Ok(Answer::Bytes(edges_text(alloc, input, steps)?)),
         Request::Drill { count } => Ok(Answer::Bytes(drill_text(alloc, count, steps)?)),
         Request::Show { stage, rate, seed } => {
             Ok(Answer::Bytes(stage_text(alloc, stage, rate, seed, input)?))
         }
+        Request::Noise { .. } | Request::Echo { .. } | Request::Inspect | Request::Receive => {
+            unreachable!()
+        }
+    }
+}
+
+// What a command but `receive` writes of a capture.
+fn answer_of_capture(
+    alloc: Global,
+    request: Request,
+    samples: Vec<Sample>,
+    steps: &mut Steps,
+) -> Result<Answer, Refusal>
+    requires samples { AreSamples samples.items }
+    requires most { vec_len samples ≤ 2 ^ 24 }
+    requires kind { reads (command_of request) ≡ Reading.Capture }
+    requires kept { request ≢ Request.Receive }
+    ensures ok { IfOk result (λ answer.
+        AnswerOf request (bytes_of_samples samples.items) (Writes (bytes_of_answer answer))) }
+    ensures refused { IfErr result (λ refusal. refusal ≡ Refusal.NoMemory) }
+{
+    match request {
+        Request::Noise { script } => Ok(Answer::Samples(noisy_samples(&script, samples)?)),
+        Request::Echo { taps } => Ok(Answer::Samples(taps.apply(alloc, &samples)?)),
+        Request::Inspect => Ok(Answer::Bytes(edges_text(alloc, &samples, steps)?)),
+        _ => unreachable!(),
     }
 }
 
 // The samples of a capture after a script.
-fn noisy_samples(alloc: Global, script: &Script, capture: &[u8]) -> Result<Vec<Sample>, AllocError>
-    requires whole { length capture.now % 4 ≡ 0 }
-    requires most { length capture.now ≤ most_input }
-    ensures { IfOk result
-        (λ samples. samples.items ≡ after_items script.now (samples_in capture.now)) }
+fn noisy_samples(script: &Script, samples: Vec<Sample>) -> Result<Vec<Sample>, AllocError>
+    requires { vec_len samples ≤ 2 ^ 24 }
+    ensures { IfOk result (λ noisy. noisy.items ≡ after_items script.now samples.items) }
 {
-    let mut samples = samples_of(alloc, capture)?;
+    let mut samples = samples;
     script.apply(&mut samples)?;
     Ok(samples)
 }
 
-// The echo of a capture's samples.
-fn echoed_samples(alloc: Global, taps: &Taps, capture: &[u8]) -> Result<Vec<Sample>, AllocError>
-    requires whole { length capture.now % 4 ≡ 0 }
-    requires most { length capture.now ≤ most_input }
-    ensures { IfOk result
-        (λ echo. echo.items ≡ echo_of taps.now (samples_in capture.now)) }
-{
-    let samples = samples_of(alloc, capture)?;
-    taps.apply(alloc, &samples)
-}
-
 // The text of the reports on all edges of a capture.
-fn edges_text(alloc: Global, capture: &[u8], steps: &mut Steps) -> Result<Vec<u8>, AllocError>
-    requires whole { length capture.now % 4 ≡ 0 }
-    requires most { length capture.now ≤ most_input }
-    ensures { IfOk result (λ text. HasReports (samples_in capture.now) text.items) }
+fn edges_text(alloc: Global, samples: &[Sample], steps: &mut Steps) -> Result<Vec<u8>, AllocError>
+    requires { length samples.now ≤ 2 ^ 24 }
+    ensures { IfOk result (λ text. HasReports samples.now text.items) }
 {
-    let samples = samples_of(alloc, capture)?;
-    let reports = inspect(alloc, &samples, steps)?;
+    let reports = inspect(alloc, samples, steps)?;
     reports_text(alloc, &reports)
 }
 

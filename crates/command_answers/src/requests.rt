@@ -93,7 +93,7 @@ fn answer_read<S: Source>(
 {
     let kind = Reading::of(&request);
     match read_input(alloc, kind, source) {
-        Ok(input) => answer_of(alloc, request, &input, steps),
+        Ok(input) => answer_of(alloc, request, input, steps),
         Err(refusal) => Err(refusal),
     }
 }

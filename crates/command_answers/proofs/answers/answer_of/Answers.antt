@@ -1,20 +1,8 @@
-use Rattle.std.proofs.Common.{refl}
-use Rattle.command_answers.specs.InOrder.{with_it}
+use Rattle.command_answers.specs.Inputs.{reads}
+use Rattle.command_words.specs.Asking.{command_of}
+use Rattle.command_answers.proofs.Inputs.{few_samples}
 use Rattle.command_answers.proofs.answers.answer_of.Goals as goal
 
-pub returns-in-Decode-clause-refused : goal.returns-in-Decode-clause-refused
-returns-in-Decode-clause-refused c = rw c.in-Decode.is c.decoded.ensures.refused
-
-pub returns-in-DecodeSoft-clause-refused : goal.returns-in-DecodeSoft-clause-refused
-returns-in-DecodeSoft-clause-refused c = rw c.in-DecodeSoft.is c.soft_decoded.ensures.refused
-
-pub returns-in-SendList-clause-refused : goal.returns-in-SendList-clause-refused
-returns-in-SendList-clause-refused c = rw c.in-SendList.is c.listed.ensures.refused
-
-pub returns-in_ok-edges_text-in-Inspect-clause-ok : goal.returns-in_ok-edges_text-in-Inspect-clause-ok
-returns-in_ok-edges_text-in-Inspect-clause-ok c =
-    rw c.in-Inspect.is (with_it c.in_ok-edges_text-in-Inspect.field-0.items c.in_ok-edges_text-in-Inspect.ensures refl)
-
-pub returns-in_ok-drill_text-in-Drill-clause-ok : goal.returns-in_ok-drill_text-in-Drill-clause-ok
-returns-in_ok-drill_text-in-Drill-clause-ok c =
-    rw c.in-Drill.is (with_it c.in_ok-drill_text-in-Drill.field-0.items c.in_ok-drill_text-in-Drill.ensures refl)
+pub answer_of_capture-requires-clause-most : goal.answer_of_capture-requires-clause-most
+answer_of_capture-requires-clause-most c =
+    few_samples (reads (command_of c.args.request)) c.in-Samples.samples (rw c.in-Samples.is at c.requires.form) (rw c.in-Samples.is at c.requires.accepted)

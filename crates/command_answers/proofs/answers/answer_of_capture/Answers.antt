@@ -1,0 +1,23 @@
+use Rattle.std.proofs.Common.{refl, ap, subst, ◌∙◌}
+use Rattle.capture_files.specs.Captures.{bytes_of_samples}
+use Rattle.capture_files.proofs.Bytes.{samples_back}
+use Rattle.echo_taps.specs.Echoes.{echo_of}
+use Rattle.command_answers.specs.InOrder.{Writes, with_it}
+use Rattle.command_answers.specs.Receiving.{HasReports}
+use Rattle.command_answers.proofs.answers.answer_of_capture.Goals as goal
+
+pub returns-in_ok-noisy_samples-in-Noise-clause-ok : goal.returns-in_ok-noisy_samples-in-Noise-clause-ok
+returns-in_ok-noisy_samples-in-Noise-clause-ok c =
+    let back = samples_back c.args.samples.items c.requires.samples in
+    rw (c.in-Noise.is, back) (ap (λ list. Writes (bytes_of_samples list)) c.in_ok-noisy_samples-in-Noise.ensures)
+
+pub returns-in_ok-apply-in-Echo-clause-ok : goal.returns-in_ok-apply-in-Echo-clause-ok
+returns-in_ok-apply-in-Echo-clause-ok c =
+    let back = samples_back c.args.samples.items c.requires.samples in
+    rw (c.in-Echo.is, back) (ap (λ list. Writes (bytes_of_samples list)) (c.in_ok-apply-in-Echo.ensures.echo ∙ ap (echo_of c.in-Echo.taps) c.deref.ensures.value))
+
+pub returns-in_ok-edges_text-in-Inspect-clause-ok : goal.returns-in_ok-edges_text-in-Inspect-clause-ok
+returns-in_ok-edges_text-in-Inspect-clause-ok c =
+    let back = samples_back c.args.samples.items c.requires.samples in
+    rw (c.in-Inspect.is, back) (with_it c.in_ok-edges_text-in-Inspect.field-0.items
+    (subst (λ list. HasReports list c.in_ok-edges_text-in-Inspect.field-0.items) c.deref-in-Inspect.ensures.value c.in_ok-edges_text-in-Inspect.ensures) refl)
