@@ -1,6 +1,8 @@
 -- The last items of lists that grow.
-use Rattle.std.proofs.Common.{◌≡◌, ℕ, ◌+◌, ◌-◌, ◌<◌, ◌≤◌, ◌∙◌, List, [], ◌∷◌, ◌++◌, length, drop, pos, ap, sym, arith}
-use Rattle.std.proofs.lemmas.List.{drop-append-le, drop-drop, ext_get_or, get_or-drop, length-append, length-drop}
+use Rattle.std.proofs.Common.{◌≡◌, ℕ, ◌+◌, ◌-◌, ◌<◌, ◌≤◌, ◌∙◌, List, [], ◌∷◌, ◌++◌, length, drop, take, pos, ap, sym, arith, append-nil}
+use Rattle.std.proofs.Math.Seq.{drop-append-add}
+use Rattle.std.proofs.lemmas.List.{drop-append-le, drop-drop, drop_all, get_or-drop, length-append, length-drop, take_all, take_at}
+use borrow.Rule.Slice.PartMut.{post_of, put_mid}
 use Rattle.circular_buffer.specs.Buffer.{keep_last}
 use Rattle.fixed_complex.specs.declared.Sample.{Sample}
 use Rattle.fixed_complex.specs.Samples.{sample_at}
@@ -36,15 +38,30 @@ sample_back n xs back inside =
     let at : (length xs - n) + (length (keep_last n xs) - 1 - back) ≡ length xs - 1 - back = omega (arith, long) in
     get_or-drop (length xs - n) xs (length (keep_last n xs) - 1 - back) (record { i = pos 0; q = pos 0 }) ∙ ap (sample_at xs) at
 
--- samples that were read back one by one are the last ones
-pub last_ones : (r items out : List Sample) (m : ℕ) → length out ≡ m → m ≤ length r → m ≤ 1024 → items ≡ keep_last 1024 r
-    → ((k : ℕ) → k < m → sample_at out k ≡ sample_at items (length items - 1 - (m - 1 - k))) → out ≡ keep_last m r
-last_ones r items out m long within held is each =
-    let kept = length-kept 1024 r in
-    let last = length-kept m r in
-    ext_get_or (record { i = pos 0; q = pos 0 }) out (keep_last m r) (omega (arith, last)) (λ k below.
-    let inside : m - 1 - k < length (keep_last 1024 r) = omega (arith, kept) in
-    let at : length r - 1 - (m - 1 - k) ≡ length r - m + k = omega arith in
-    let back = sample_back 1024 r (m - 1 - k) inside in
-    each k (omega arith) ∙ ap (λ list. sample_at list (length list - 1 - (m - 1 - k))) is ∙ back ∙ ap (sample_at r) at
-    ∙ sym (get_or-drop (length r - m) r k (record { i = pos 0; q = pos 0 })))
+-- the last items of two pieces, of which the first has some of them
+pub copied_from_both : {A : Type 0} (front back old first second : List A) (from m : ℕ) → from < length front → length old ≡ m → from + m ≡ length front + length back
+    → first ≡ take (length front - from) (drop from front) → second ≡ back
+    → put_mid (length front - from) (length (first ++ drop (length front - from) old) - (length front - from)) (first ++ drop (length front - from) old) second
+    ≡ keep_last m (front ++ back)
+copied_from_both front back old first second from m inside long total is same =
+    let begun = length front - from in
+    let front_part : first ≡ drop from front = is ∙ take_all begun (drop from front) (omega (arith, length-drop from front)) in
+    let count : length first ≡ begun = ap length front_part ∙ length-drop from front in
+    let whole = first ++ drop begun old in
+    let size : length whole ≡ m = omega (arith, length-append first (drop begun old), length-drop begun old, count, long) in
+    let head : take begun whole ≡ first = take_at first (drop begun old) begun count in
+    let none : post_of begun (length whole - begun) whole ≡ [] = drop_all (length whole - begun) (drop begun whole) (omega (arith, length-drop begun whole)) in
+    let long_both = length-append front back in
+    let from_is : length (front ++ back) - m ≡ from = omega (arith, long_both, total) in
+    rw (head, none, append-nil second, same, front_part)
+    (sym (ap (λ k. drop k (front ++ back)) from_is ∙ drop-append-le from front back (omega arith)))
+
+-- .. and of which it has none
+pub copied_from_back : {A : Type 0} (front back new : List A) (from m : ℕ) → length front ≤ from → from + m ≡ length front + length back
+    → new ≡ take (length back - (from - length front)) (drop (from - length front) back) → new ≡ keep_last m (front ++ back)
+copied_from_back front back new from m past total is =
+    let rest = drop (from - length front) back in
+    let long_both = length-append front back in
+    let from_is : length (front ++ back) - m ≡ length front + (from - length front) = omega (arith, long_both, total, past) in
+    is ∙ take_all (length back - (from - length front)) rest (omega (arith, length-drop (from - length front) back))
+    ∙ sym (ap (λ k. drop k (front ++ back)) from_is ∙ drop-append-add front back (from - length front))

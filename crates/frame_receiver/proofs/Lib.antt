@@ -5,3 +5,4 @@ pub mod Pushing
 pub mod Receptions
 mod Noise
 mod Answered
+pub mod Skimming

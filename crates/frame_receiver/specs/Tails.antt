@@ -1,7 +1,8 @@
 -- The last samples of those that came (own).
-use Rattle.std.specs.Prelude.{◌≡◌, ℕ, ◌-◌, ◌≤◌, List, length}
+use Rattle.std.specs.Prelude.{◌≡◌, ℕ, ◌+◌, ◌-◌, ◌≤◌, List, [], ◌∷◌, length, min, if◌then◌else◌}
 use Rattle.circular_buffer.specs.Buffer.{keep_last}
 use Rattle.fixed_complex.specs.declared.Sample.{Sample}
+use Rattle.lane_kernels.specs.Kernels.{is_loud}
 use Rattle.frame_search.specs.Edges.{IsEdge}
 use Rattle.frame_search.specs.Runs.{quiet_before}
 
@@ -22,3 +23,9 @@ pub record IsTailOf (tail : TailView) (samples : List Sample) : Type 0 where
 pub record SettlesEdge (samples : List Sample) : Type 0 where
   pub long : 400 ≤ length samples
   pub edge : IsEdge samples (length samples - 400)
+
+-- the run of quiet samples, at most 16, behind some samples, from the run before them
+abbrev pub run_behind : ℕ → List Sample → ℕ
+run_behind quiet [] = quiet
+run_behind quiet (sample ∷ samples) =
+    run_behind (if is_loud sample then 0 else min 16 (quiet + 1)) samples

@@ -24,6 +24,7 @@ use circular_buffer::HeapCircularBuffer;
 use fixed_complex::Sample;
 use frame_findings::Cut;
 use frame_reader::{finish_field, hear_symbol, look};
+use frame_search::tick_times;
 use modem_ports::Steps;
 use rate_table::Rate;
 use signal_field::Header;
@@ -182,6 +183,29 @@ impl Receiver {
         })
     }
 
+    /// Takes the first of some samples, and answers how many: none of them makes a frame whole. It may take none where `push`
+    /// is to take the first one. With those that came before they are at most 2^24.
+    ///
+    /// The count of steps rises by at most what `spent` rises by.
+    pub fn skim(&mut self, samples: &[Sample], steps: &mut Steps) -> usize
+        requires { self.old.tail.count + length samples.now ≤ 2 ^ 24 }
+        ensures stands { (before : List Sample) (heard : List Heard) → Stands self.old before heard
+            → Stands self.new (before ++ take result samples.now) heard }
+        ensures count { self.new.tail.count ≡ self.old.tail.count + result }
+        ensures within { result ≤ length samples.now }
+        ensures counted { steps.new + self.old.spent ≤ steps.old + self.new.spent }
+        ensures bounded { self.new.spent ≤ 32 * self.new.tail.count + 512 }
+    {
+        let most = match self.at {
+            None => samples.len(),
+            Some(at) => left_of_symbol(&at, self.tail.count()).min(samples.len()),
+        };
+        let taken = self.tail.skim(&samples[..most]);
+        self.spent += taken as u64;
+        tick_times(steps, taken);
+        taken
+    }
+
     /// The cut in which the samples that came so far end, if they end in one. Samples may come after it.
     ///
     /// Where the samples are near frames, each within the noise bound of its rate, in silence within 64, what `push`
@@ -277,6 +301,15 @@ fn hear_last(tail: &Tail, estimate: &Estimate, at: &At, trellis: &mut Trellis, s
     let mut body = [SILENCE; 64];
     tail.put_last(&mut body);
     hear_symbol(&body, estimate, &at.header, at.symbols, trellis, steps);
+}
+
+// How many samples may come before the last one of the symbol.
+fn left_of_symbol(at: &At, count: usize) -> usize
+    requires inside { count < at.now.place + 480 + 80 * at.now.symbols }
+    requires fits { at.now.place + 480 + 80 * at.now.symbols ≤ 2 ^ 32 }
+    ensures { result + 1 + count ≡ at.now.place + 480 + 80 * at.now.symbols }
+{
+    at.place + 479 + 80 * at.symbols - count
 }
 
 // N_SYM of a header.

@@ -1,10 +1,10 @@
 //! The last samples of those that came, and whether the place that 400 samples stand from on is an edge.
-ghost use Rattle.std.specs.Prelude.{◌≡◌, ℕ, ◌+◌, ◌-◌, ◌^◌, ◌<◌, ◌≤◌, ◌↔◌, IsTrue, List, [], ◌∷◌, ◌++◌, length, min, true, if◌then◌else◌};
+ghost use Rattle.std.specs.Prelude.{◌≡◌, ℕ, ◌+◌, ◌-◌, ◌^◌, ◌<◌, ◌≤◌, ◌↔◌, IsTrue, List, [], ◌∷◌, ◌++◌, length, min, take, true, false, if◌then◌else◌};
 ghost use Rattle.circular_buffer.specs.Buffer.{buffer, keep_last};
 ghost use Rattle.fixed_complex.specs.Samples.{sample_at};
 ghost use Rattle.fixed_complex.specs.declared.Sample.{Sample};
 ghost use Rattle.lane_kernels.specs.Kernels.{is_loud};
-ghost use Rattle.frame_receiver.specs.Tails.{IsTailOf, SettlesEdge};
+ghost use Rattle.frame_receiver.specs.Tails.{IsTailOf, SettlesEdge, run_behind};
 
 use circular_buffer::HeapCircularBuffer;
 use fixed_complex::Sample;
@@ -74,6 +74,29 @@ impl Tail {
         edge
     }
 
+    // Takes the first of some samples, and answers how many: none of them makes 400 samples stand from an edge on.
+    pub(crate) fn skim(&mut self, samples: &[Sample]) -> usize
+        requires { self.old.count + length samples.now ≤ 2 ^ 24 }
+        ensures tail { (before : List Sample) → IsTailOf self.old before
+            → IsTailOf self.new (before ++ take result samples.now) }
+        ensures none { (before : List Sample) → IsTailOf self.old before
+            → (n : ℕ) → n < result → ¬ SettlesEdge (before ++ take (n + 1) samples.now) }
+        ensures count { self.new.count ≡ self.old.count + result }
+        ensures within { result ≤ length samples.now }
+        ensures quiet { self.new.quiet ≤ self.old.quiet + result }
+    {
+        if self.count < 1024 {
+            return 0;
+        }
+        let settling = settling(&self.window);
+        let most = settling.len().min(samples.len());
+        let (taken, quiet) = run_through(self.quiet, &settling[..most]);
+        self.window.extend_from_slice(&samples[..taken]);
+        self.count += taken;
+        self.quiet = quiet;
+        taken
+    }
+
     // How many samples came.
     pub(crate) fn count(&self) -> usize
         ensures { result ≡ self.now.count }
@@ -96,9 +119,23 @@ impl Tail {
         ensures { (samples : List Sample) → IsTailOf self.now samples
             → out.new ≡ keep_last (length out.old) samples }
     {
-        for n in 0..out.len() {
-            out[n] = back(&self.window, out.len() - 1 - n);
-        }
+        copy_last(&self.window, out);
+    }
+}
+
+// Copies the last samples, as many as a slice has.
+fn copy_last(window: &HeapCircularBuffer<Sample>, out: &mut [Sample])
+    requires { length out.old ≤ length window.now.items }
+    ensures { out.new ≡ keep_last (length out.old) window.now.items }
+{
+    let (front, back) = window.as_slices();
+    let from = window.len() - out.len();
+    if from < front.len() {
+        let begun = front.len() - from;
+        out[..begun].copy_from_slice(&front[from..]);
+        out[begun..].copy_from_slice(back);
+    } else {
+        out.copy_from_slice(&back[from - front.len()..]);
     }
 }
 
@@ -111,6 +148,42 @@ fn back(window: &HeapCircularBuffer<Sample>, back: usize) -> Sample
         Some(sample) => *sample,
         None => unreachable!(),
     }
+}
+
+// The samples of a full window that settle next, in order, as many as lie in one piece.
+fn settling(window: &HeapCircularBuffer<Sample>) -> &[Sample]
+    requires { length window.now.items ≡ 1024 }
+    ensures at { (n : ℕ) → n < length result.now
+        → sample_at result.now n ≡ sample_at window.now.items (625 + n) }
+    ensures few { length result.now ≤ 399 }
+{
+    let (front, back) = window.as_slices();
+    if front.len() > 625 {
+        &front[625..]
+    } else {
+        &back[625 - front.len()..]
+    }
+}
+
+// How many samples settle before the first one that is loud behind a run of 16 quiet ones, and the run behind them, from
+// the run before them.
+fn run_through(quiet: u8, settling: &[Sample]) -> (usize, u8)
+    requires { quiet ≤ 16 }
+    ensures run { result.1 ≡ run_behind quiet (take result.0 settling.now) }
+    ensures none { (n : ℕ) → n < result.0 → run_behind quiet (take n settling.now) ≡ 16
+        → is_loud (sample_at settling.now n) ≡ false }
+    ensures within { result.0 ≤ length settling.now }
+    ensures most { result.1 ≤ 16 }
+    ensures rises { result.1 ≤ quiet + result.0 }
+{
+    let mut run = quiet;
+    for n in 0..settling.len() {
+        if ends_run(run, settling[n]) {
+            return (n, run);
+        }
+        run = run_after(run, settling[n]);
+    }
+    (settling.len(), run)
 }
 
 // Whether a sample is loud behind a run of 16 quiet ones.

@@ -4,8 +4,8 @@ ghost use Rattle.modem_ports.specs.Counts.{raised_by};
 
 use modem_ports::Steps;
 
-// So many steps more.
-pub(crate) fn tick_times(steps: &mut Steps, times: usize)
+/// Counts so many steps more (own). Takes no memory.
+pub fn tick_times(steps: &mut Steps, times: usize)
     ensures { steps.new ≡ raised_by times steps.old }
 {
     let _so_far = steps.count();

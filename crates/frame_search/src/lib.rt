@@ -7,6 +7,7 @@ mod edges;
 mod matching;
 mod template;
 
+pub use counting::tick_times;
 pub use edges::{is_edge, is_loud, next_edge};
 pub use matching::matches_template;
 
