@@ -42,14 +42,14 @@ nothing (byte ∷ held) none = absurd (omega arith)
 -- they are, and the answer is that of their findings
 pub ends_whole : (h : HearingView) (bytes : List ℕ) (cut : Option Cut) (answer : Result (List ℕ) Refusal) → (heard : HasHeard h bytes) → length h.held ≡ 0
     → ((samples : List Sample) (frames : List Heard) → Stands h.receiver samples frames → AreFindings samples frames cut)
-    → answer ≡ received_of heard.heard cut → IsReceived bytes answer
+    → answer ≡ received_of heard.lines.heard cut → IsReceived bytes answer
 ends_whole h bytes cut answer heard none ends is =
     let n = bytes_count h bytes heard in
     let most : length bytes ≤ most_input = omega (arith, heard.count, heard.most) in
     let even : length bytes % 4 ≡ 0 = omega (arith, n, none) in
     let are : bytes ≡ bytes_of_samples heard.samples = rw (heard.bytes_are, nothing h.held none) (append-nil (bytes_of_samples heard.samples)) in
     let same : samples_in bytes ≡ heard.samples = rw are (samples_back heard.samples heard.are) in
-    whole most even heard.heard cut (rw same (ends heard.samples heard.heard heard.stands)) is
+    whole most even heard.lines.heard cut (rw same (ends heard.samples heard.lines.heard heard.lines.stands)) is
 
 -- a line has a byte
 begins_some : (line : List ℕ) (first : ℕ) (rest : List ℕ) → line ≡ first ∷ rest → 0 < length line
@@ -75,4 +75,4 @@ pub cut_fits : CutLineFits → (h : HearingView) (bytes : List ℕ) (cut : Cut) 
 cut_fits fits h bytes cut heard ends =
     let n = bytes_count h bytes heard in
     let few : length heard.samples ≤ most_text = omega (arith, n, heard.count, heard.most) in
-    omega (arith, few, ap length heard.lines_are, fits heard.samples heard.heard cut few (ends heard.samples heard.heard heard.stands))
+    omega (arith, few, ap length heard.lines.lines_are, fits heard.samples heard.lines.heard cut few (ends heard.samples heard.lines.heard heard.lines.stands))

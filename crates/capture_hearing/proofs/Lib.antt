@@ -1,3 +1,3 @@
 mod Ending
 mod FromSource
-mod OneByte
+mod MoreSamples

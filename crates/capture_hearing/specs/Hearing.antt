@@ -17,15 +17,19 @@ pub record HearingView : Type 0 where
   pub receiver : ReceiverView
   pub lines : List ℕ
 
--- it heard these bytes: they are those of samples, and then the ones that are held; the receiver stands
--- for the samples and for frames, and the lines are those of the frames
+-- a receiver took samples, and lines are those of the frames that it heard
+pub record HasLines (receiver : ReceiverView) (lines : List ℕ) (samples : List Sample) : Type 0 where
+  pub heard : List Heard
+  pub stands : Stands receiver samples heard
+  pub lines_are : lines ≡ flat_map frame_line heard
+
+-- it heard these bytes: they are those of samples, and then the ones that are held; the receiver took
+-- the samples, and the lines are those of its frames
 pub record HasHeard (hearing : HearingView) (bytes : List ℕ) : Type 0 where
   pub samples : List Sample
-  pub heard : List Heard
   pub bytes_are : bytes ≡ bytes_of_samples samples ++ hearing.held
   pub are : AreSamples samples
-  pub stands : Stands hearing.receiver samples heard
-  pub lines_are : hearing.lines ≡ flat_map frame_line heard
+  pub lines : HasLines hearing.receiver hearing.lines samples
   pub count : hearing.count ≡ length bytes
   pub most : hearing.count ≤ most_input
   pub spent : hearing.receiver.spent ≤ 32 * length samples + 512

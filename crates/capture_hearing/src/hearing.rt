@@ -1,9 +1,10 @@
 //! The hearing of a capture, byte by byte.
-ghost use Rattle.std.specs.Prelude.{◌≡◌, ◌++◌, ◌∷◌, ◌<◌, ◌+◌, ◌≤◌, ℕ, List, [], length, IfOk, IfErr, IfSome, Ok, Err};
+ghost use Rattle.std.specs.Prelude.{◌≡◌, ◌++◌, ◌∷◌, ◌<◌, ◌+◌, ◌*◌, ◌≤◌, ◌^◌, ℕ, List, [], length, take, IfOk, IfErr, IfSome, Ok, Err};
 ghost use Rattle.std.specs.List.{flat_map};
-ghost use Rattle.capture_hearing.specs.Hearing.{HasHeard};
+ghost use Rattle.capture_hearing.specs.Hearing.{HasHeard, HasLines};
 ghost use Rattle.capture_hearing.specs.Received.{IsReceived, received_of};
 ghost use Rattle.finding_lines.specs.Lines.{frame_line, most_text, text_of_findings};
+ghost use Rattle.fixed_complex.specs.declared.Sample.{Sample};
 ghost use Rattle.frame_findings.specs.declared.Heard.{Heard};
 ghost use Rattle.modem_ports.specs.Limits.{most_input};
 ghost use Rattle.report_lines.specs.Refusals.{IsDecided, status_of};
@@ -20,6 +21,11 @@ use report_lines::Refusal;
 use std::alloc::{AllocError, Global};
 use std::marker::Model;
 use viterbi_lanes::Trellis;
+
+// The most bytes that are cut into samples at once.
+const PIECE: usize = 4096;
+
+const SILENCE: Sample = Sample { i: 0, q: 0 };
 
 /// What was heard of a capture: the frames so far, as lines (own).
 #[derive(Drop)]
@@ -72,33 +78,6 @@ impl Hearing {
         })
     }
 
-    /// Takes the next byte; fewer than 67108864 came before. Takes no memory.
-    ///
-    /// The count of steps rises by at most what the receiver's `spent` rises by.
-    pub fn hear(&mut self, byte: u8, steps: &mut Steps)
-        requires { self.old.count < most_input }
-        ensures heard { (bytes : List ℕ) → HasHeard self.old bytes
-            → HasHeard self.new (bytes ++ byte ∷ []) }
-        ensures count { self.new.count ≡ self.old.count + 1 }
-        ensures counted { steps.new + self.old.receiver.spent ≤ steps.old + self.new.receiver.spent }
-    {
-        // a law; it does nothing
-        lines_fit();
-        self.count += 1;
-        let Some(sample) = self.piecer.feed(byte) else {
-            return;
-        };
-        let Some(found) = self.receiver.push(sample, steps) else {
-            return;
-        };
-        self.lines.put_frame(
-            found.start,
-            found.rate,
-            found.length,
-            found.seed,
-            self.receiver.psdu(),
-        );
-    }
     /// Takes the next bytes; with those that came before they are at most 67108864. Takes no memory.
     ///
     /// The count of steps rises by at most what the receiver's `spent` rises by.
@@ -109,9 +88,31 @@ impl Hearing {
         ensures count { self.new.count ≡ self.old.count + length bytes.now }
         ensures counted { steps.new + self.old.receiver.spent ≤ steps.old + self.new.receiver.spent }
     {
-        for byte in bytes {
-            self.hear(*byte, steps);
+        for some in bytes.chunks(PIECE) {
+            self.hear_piece(some, steps);
         }
+    }
+
+    // Takes the next bytes, at most 4096.
+    fn hear_piece(&mut self, bytes: &[u8], steps: &mut Steps)
+        requires few { length bytes.now ≤ 4096 }
+        requires room { self.old.count + length bytes.now ≤ most_input }
+        ensures heard { (before : List ℕ) → HasHeard self.old before
+            → HasHeard self.new (before ++ bytes.now) }
+        ensures count { self.new.count ≡ self.old.count + length bytes.now }
+        ensures counted { steps.new + self.old.receiver.spent ≤ steps.old + self.new.receiver.spent }
+    {
+        let mut samples = [SILENCE; PIECE / 4];
+        // fewer than four bytes are held
+        let _held = self.piecer.rest();
+        let whole = self.piecer.feed_all(bytes, &mut samples);
+        self.count += bytes.len();
+        hear_samples(
+            &mut self.receiver,
+            &mut self.lines,
+            &samples[..whole],
+            steps,
+        );
     }
 
     /// How many bytes came, at most 67108864. Takes no memory.
@@ -144,6 +145,72 @@ impl Hearing {
         }
         Ok(text_with(self.lines, cut))
     }
+}
+
+// Hands samples to a receiver; the lines of the frames that they make whole come behind those before.
+fn hear_samples(receiver: &mut Receiver, lines: &mut Lines, samples: &[Sample], steps: &mut Steps)
+    requires stood { (before : List Sample) × HasLines receiver.old lines.old before }
+    requires room { receiver.old.tail.count + length samples.now ≤ 2 ^ 24 }
+    ensures heard { (before : List Sample) → HasLines receiver.old lines.old before
+        → HasLines receiver.new lines.new (before ++ samples.now) }
+    ensures counted { steps.new + receiver.old.spent ≤ steps.old + receiver.new.spent }
+    ensures bounded { receiver.old.spent ≤ 32 * receiver.old.tail.count + 512
+        → receiver.new.spent ≤ 32 * receiver.new.tail.count + 512 }
+{
+    let mut taken = 0;
+    while taken < samples.len() {
+        taken += hear_some(receiver, lines, &samples[taken..], steps);
+    }
+}
+
+// Hands the first of some samples to a receiver, and answers how many.
+fn hear_some(
+    receiver: &mut Receiver,
+    lines: &mut Lines,
+    samples: &[Sample],
+    steps: &mut Steps,
+) -> usize
+    requires some { 1 ≤ length samples.now }
+    requires stood { (before : List Sample) × HasLines receiver.old lines.old before }
+    requires room { receiver.old.tail.count + length samples.now ≤ 2 ^ 24 }
+    ensures heard { (before : List Sample) → HasLines receiver.old lines.old before
+        → HasLines receiver.new lines.new (before ++ take result samples.now) }
+    ensures least { 1 ≤ result }
+    ensures most { result ≤ length samples.now }
+    ensures count { receiver.new.tail.count ≡ receiver.old.tail.count + result }
+    ensures counted { steps.new + receiver.old.spent ≤ steps.old + receiver.new.spent }
+    ensures bounded { receiver.new.spent ≤ 32 * receiver.new.tail.count + 512 }
+{
+    let skimmed = receiver.skim(samples, steps);
+    if skimmed > 0 {
+        return skimmed;
+    }
+    hear_sample(receiver, lines, samples[0], steps);
+    1
+}
+
+// Hands a sample to a receiver; the line of the frame that it makes whole, if it does, comes behind those before.
+fn hear_sample(receiver: &mut Receiver, lines: &mut Lines, sample: Sample, steps: &mut Steps)
+    requires stood { (before : List Sample) × HasLines receiver.old lines.old before }
+    requires room { receiver.old.tail.count < 2 ^ 24 }
+    ensures heard { (before : List Sample) → HasLines receiver.old lines.old before
+        → HasLines receiver.new lines.new (before ++ sample ∷ []) }
+    ensures count { receiver.new.tail.count ≡ receiver.old.tail.count + 1 }
+    ensures counted { steps.new + receiver.old.spent ≤ steps.old + receiver.new.spent }
+    ensures bounded { receiver.new.spent ≤ 32 * receiver.new.tail.count + 512 }
+{
+    // a law; it does nothing
+    lines_fit();
+    let Some(found) = receiver.push(sample, steps) else {
+        return;
+    };
+    lines.put_frame(
+        found.start,
+        found.rate,
+        found.length,
+        found.seed,
+        receiver.psdu(),
+    );
 }
 
 // The refusal of a capture without a whole frame.

@@ -12,7 +12,7 @@ returns-then-is_empty-clause-refused c = λ bytes heard.
     let opened = rw (← c.self.view_is) at heard in
     let none : length c.self.inside.piecer ≡ 0 = search rules in
     let empty : length c.self.inside.lines ≡ 0 = search rules in
-    let frames : opened.heard ≡ [] = no_lines opened.heard _ opened.lines_are empty in
+    let frames : opened.lines.heard ≡ [] = no_lines opened.lines.heard _ opened.lines.lines_are empty in
     ends_whole _ bytes c.end-cut.result _ opened none c.end-cut.ensures.findings (rw frames (sym c.no_whole_frame.ensures.value))
 
 pub returns-clause-text : goal.returns-clause-text
@@ -20,4 +20,4 @@ returns-clause-text c = λ bytes heard.
     let opened = rw (← c.self.view_is) at heard in
     let none : length c.self.inside.piecer ≡ 0 = search rules in
     let some : length c.self.inside.lines ≢ 0 = search rules in
-    ends_whole _ bytes c.end-cut.result _ opened none c.end-cut.ensures.findings (some_lines opened.heard _ _ _ opened.lines_are some (c.text_with.ensures opened.heard opened.lines_are))
+    ends_whole _ bytes c.end-cut.result _ opened none c.end-cut.ensures.findings (some_lines opened.lines.heard _ _ _ opened.lines.lines_are some (c.text_with.ensures opened.lines.heard opened.lines.lines_are))
