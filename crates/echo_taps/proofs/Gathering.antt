@@ -9,7 +9,7 @@ use Rattle.fixed_complex.specs.Laws.{sum_below}
 use Rattle.fixed_complex.specs.Pairs.{IsWithin, plus, zero_pair}
 use Rattle.fixed_complex.specs.Rounding.{half_up}
 use Rattle.lane_kernels.specs.Kernels.{held}
-use Rattle.echo_taps.specs.Echoes.{gathered, held_sample}
+use Rattle.echo_taps.specs.Echoes.{gathered, held_sample, pairs_at}
 
 -- no delay yet
 pub none_yet : (f : ℕ → Cx) → zero_pair ≡ sum_below 0 f
@@ -38,8 +38,8 @@ pub sample_is : (sum other : Cx) (i q : ℤ) → i ≡ held (half_up 10 sum.re) 
 sample_is sum other i q is_i is_q same = rw (is_i, is_q, same) refl
 
 -- one sample more
-pub next_sample : (pairs : List Cx) (samples before after : List Sample) (place : ℕ) (sample : Sample) → before ≡ map (λ place. held_sample (gathered pairs samples place)) (range_with_len 0 place)
-    → sample ≡ held_sample (gathered pairs samples place) → after ≡ before ++ sample ∷ [] → after ≡ map (λ place. held_sample (gathered pairs samples place)) (range_with_len 0 (place + 1))
+pub next_sample : (pairs : List Cx) (samples before after : List Sample) (place : ℕ) (sample : Sample) → before ≡ map (λ place. held_sample (gathered pairs (pairs_at samples) place)) (range_with_len 0 place)
+    → sample ≡ held_sample (gathered pairs (pairs_at samples) place) → after ≡ before ++ sample ∷ [] → after ≡ map (λ place. held_sample (gathered pairs (pairs_at samples) place)) (range_with_len 0 (place + 1))
 next_sample pairs samples before after place sample so_far is pushed =
-    pushed ∙ ap (λ s. before ++ s ∷ []) is ∙ ap (λ list. list ++ held_sample (gathered pairs samples place) ∷ []) so_far
-    ∙ sym (map-range_with_len_more (λ place. held_sample (gathered pairs samples place)) 0 place place (omega arith))
+    pushed ∙ ap (λ s. before ++ s ∷ []) is ∙ ap (λ list. list ++ held_sample (gathered pairs (pairs_at samples) place) ∷ []) so_far
+    ∙ sym (map-range_with_len_more (λ place. held_sample (gathered pairs (pairs_at samples) place)) 0 place place (omega arith))

@@ -3,3 +3,6 @@ pub mod Series
 pub mod Sames
 pub mod Taking
 pub mod Gathering
+pub mod Sizes
+pub mod TapSums
+pub mod Places

@@ -9,24 +9,25 @@ use Rattle.fixed_complex.specs.Pairs.{rounded_pair, times, zero_pair}
 use Rattle.fixed_complex.specs.Samples.{pair_of, sample_at}
 use Rattle.lane_kernels.specs.Kernels.{held}
 
--- the sample so many places before a place, and silence before the first
-abbrev pub earlier : List Sample → ℕ → ℕ → Cx
-earlier samples place late =
-    if nat_lt place late then zero_pair else pair_of (sample_at samples (place - late))
+-- samples as pairs, by place: (0, 0) past the end
+abbrev pub pairs_at : List Sample → ℕ → Cx
+pairs_at samples n = pair_of (sample_at samples n)
 
--- what comes together at a place: the sum, over the delays, of the delay's pair times the sample so much
--- earlier; samples before the first and behind the last are silent
-unfoldable pub gathered : List Cx → List Sample → ℕ → Cx
-gathered pairs samples place =
-    sum_below 8 (λ late. times (entry pairs late) (earlier samples place late))
+-- the pair so many places before a place, and (0, 0) before the first
+abbrev pub earlier : (ℕ → Cx) → ℕ → ℕ → Cx
+earlier pairs place late = if nat_lt place late then zero_pair else pairs (place - late)
+
+-- what comes together at a place: the sum, over the delays, of the tap of the delay times the pair so much earlier
+unfoldable pub gathered : List Cx → (ℕ → Cx) → ℕ → Cx
+gathered taps pairs place = sum_below 8 (λ late. times (entry taps late) (earlier pairs place late))
 
 -- a pair over 1024, rounded half up, each component held within -32768 to 32767
 abbrev pub held_sample : Cx → Sample
 held_sample sum =
     let pair = rounded_pair 10 sum in record { i = held pair.re; q = held pair.im }
 
--- the echo of samples: seven samples more
+-- the echo of samples: seven samples more; samples before the first and behind the last are silent
 unfoldable pub echo_of : List Cx → List Sample → List Sample
-echo_of pairs samples =
-    map (λ place. held_sample (gathered pairs samples place))
+echo_of taps samples =
+    map (λ place. held_sample (gathered taps (pairs_at samples) place))
     (range_with_len 0 (length samples + 7))

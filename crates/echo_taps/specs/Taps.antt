@@ -1,6 +1,8 @@
 -- Taps: what of a capture comes again as an echo, and how late (own).
-use Rattle.std.specs.Prelude.{ℕ, ◌+◌, ◌≤◌, List, [], ◌∷◌, replicate, pos, unsigned_abs, slice_set}
+use Rattle.std.specs.Prelude.{◌≡◌, ℕ, ◌+◌, ◌≤◌, List, [], ◌∷◌, length, replicate, pos, unsigned_abs, slice_set}
+use Rattle.std.specs.List.{sum_by}
 use Rattle.fixed_complex.specs.declared.Cx.{Cx}
+use Rattle.fixed_complex.specs.PairLists.{entry}
 use Rattle.fixed_complex.specs.Pairs.{zero_pair}
 use Rattle.echo_taps.specs.declared.Tap.{Tap}
 
@@ -29,3 +31,13 @@ no_echo = record { re = pos 1024; im = pos 0 } ∷ replicate 7 zero_pair
 -- the eight pairs of taps, by delay
 abbrev pub pairs_of : List Tap → List Cx
 pairs_of taps = with_taps no_echo taps
+
+-- the size of a pair: that of its two numbers together
+abbrev pub size_of_pair : Cx → ℕ
+size_of_pair pair = unsigned_abs pair.re + unsigned_abs pair.im
+
+-- what the pairs of each text of taps are: eight, the first is (1024, 0), and the sizes of the others make at most 256
+pub record IsEcho (taps : List Cx) : Type 0 where
+  pub eight : length taps ≡ 8
+  pub main : entry taps 0 ≡ record { re = pos 1024; im = pos 0 }
+  pub sizes : sum_by size_of_pair taps ≤ 1024 + 256

@@ -1,6 +1,6 @@
 //! The echo of samples.
 ghost use Rattle.std.specs.Prelude.{◌≡◌, ◌+◌, ◌^◌, ◌≤◌, ℕ, [], ◌∷◌, ◌++◌, length, unsigned_abs, IfOk, OnOk};
-ghost use Rattle.echo_taps.specs.Echoes.{earlier, echo_of, gathered, held_sample};
+ghost use Rattle.echo_taps.specs.Echoes.{earlier, echo_of, gathered, held_sample, pairs_at};
 ghost use Rattle.fixed_complex.specs.PairLists.{PairsWithin};
 ghost use Rattle.fixed_complex.specs.Pairs.{IsWithin};
 ghost use Rattle.fixed_complex.specs.Rounding.{half_up};
@@ -50,7 +50,7 @@ fn held_of(sum: Cx) -> Sample
 // What comes together at a place.
 fn sum_at(pairs: &[Cx; 8], samples: &[Sample], place: usize) -> Cx
     requires { PairsWithin 1024 pairs.now }
-    ensures sum { result ≡ gathered pairs.now samples.now place }
+    ensures sum { result ≡ gathered pairs.now (pairs_at samples.now) place }
     ensures within { IsWithin (2 ^ 34) result }
 {
     let mut sum = Cx { re: 0, im: 0 };
@@ -62,7 +62,7 @@ fn sum_at(pairs: &[Cx; 8], samples: &[Sample], place: usize) -> Cx
 
 // The sample so many places before a place, as a pair.
 fn pair_at(samples: &[Sample], place: usize, late: usize) -> Cx
-    ensures pair { result ≡ earlier samples.now place late }
+    ensures pair { result ≡ earlier (pairs_at samples.now) place late }
     ensures within { IsWithin (2 ^ 15) result }
 {
     match place.checked_sub(late).and_then(|at| samples.get(at)) {

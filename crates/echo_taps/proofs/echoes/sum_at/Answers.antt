@@ -3,12 +3,12 @@ use Rattle.fixed_complex.specs.Pairs.{IsWithin, times}
 use Rattle.fixed_complex.specs.PairLists.{entry}
 use Rattle.fixed_complex.proofs.PairLists.{everywhere_within}
 use Rattle.lane_kernels.proofs.Parts.{times-within}
-use Rattle.echo_taps.specs.Echoes.{earlier, gathered}
+use Rattle.echo_taps.specs.Echoes.{earlier, gathered, pairs_at}
 use Rattle.echo_taps.proofs.Gathering.{larger, none_yet, one_more, sum_within}
 use Rattle.echo_taps.proofs.echoes.sum_at.Goals as goal
 
 -- what is added at a delay, and how large it is
-added : (c : goal.After-mul) → c.mul.result ≡ times (entry c.args.pairs.now c.loop-late.late) (earlier c.args.samples.now c.args.place c.loop-late.late)
+added : (c : goal.After-mul) → c.mul.result ≡ times (entry c.args.pairs.now c.loop-late.late) (earlier (pairs_at c.args.samples.now) c.args.place c.loop-late.late)
 added c = c.mul.ensures ∙ ap (λ x. times (entry c.args.pairs.now c.loop-late.late) x) c.pair_at.ensures.pair
 
 small : (c : goal.After-mul) → IsWithin (2 ^ 31) c.mul.result

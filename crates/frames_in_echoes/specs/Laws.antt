@@ -1,0 +1,74 @@
+-- What the laws of frames in echoes state (own).
+use Rattle.std.specs.Prelude.{◌≡◌, ℕ, ◌<◌, ◌≤◌, List, length, Ok}
+use Rattle.fixed_complex.specs.declared.Cx.{Cx}
+use Rattle.fixed_complex.specs.declared.Sample.{Sample}
+use Rattle.fixed_complex.specs.PairLists.{entry}
+use Rattle.fixed_complex.specs.Pairs.{rounded_pair}
+use Rattle.fixed_complex.specs.Samples.{AreSamples, as_sample}
+use Rattle.rate_table.specs.Symbols.{symbol_count}
+use Rattle.rate_table.specs.Table.{row_of}
+use Rattle.carrier_bins.specs.Bins.{by_bin}
+use Rattle.training_fields.specs.Training.{long_carrier}
+use Rattle.frame_search.specs.Match.{part}
+use Rattle.carrier_equaliser.specs.Received.{received}
+use Rattle.echo_taps.specs.Echoes.{echo_of, gathered, held_sample, pairs_at}
+use Rattle.echo_taps.specs.Taps.{IsEcho}
+use Rattle.echo_channels.specs.Laws.{IsNearSent}
+use Rattle.symbols_in_echoes.specs.Laws.{echo_bound_of}
+use Rattle.frame_fields.specs.Frames.{frame_bin}
+use Rattle.frame_lists.specs.Near.{SentFrame}
+use Rattle.frame_reader.specs.Decisions.{body_of, plain_decisions}
+use Rattle.frame_reader.specs.Frames.{HasField, SaysHeader}
+use Rattle.exact_decisions.specs.Laws.{sent_header}
+use Rattle.frames_in_noise.specs.Laws.{IsFrame}
+use Rattle.frames_in_echoes.specs.Waves.{BeginsNearEchoed, sent_of}
+
+-- the carriers of both long bodies, which stand at 192 and 256, come back over their channels
+abbrev pub LongBodiesComeBack : Type 0
+LongBodiesComeBack =
+    (bound : ℕ) (taps : List Cx) (samples : List Sample) (frame : SentFrame) (bin : ℕ)
+    → IsEcho taps → AreSamples samples → BeginsNearEchoed bound taps samples frame → bin < 64
+    → IsNearSent bound taps bin (by_bin long_carrier bin) (entry (received (part samples 192 64)) bin)
+    × IsNearSent bound taps bin (by_bin long_carrier bin) (entry (received (part samples 256 64)) bin)
+
+-- and so do those of each symbol
+abbrev pub SymbolsComeBack : Type 0
+SymbolsComeBack =
+    (bound : ℕ) (taps : List Cx) (samples : List Sample) (frame : SentFrame) (n bin : ℕ)
+    → IsEcho taps → AreSamples samples → BeginsNearEchoed bound taps samples frame
+    → n ≤ symbol_count (row_of frame.rate).field_bits (length frame.psdu) → bin < 64
+    → IsNearSent bound taps bin (frame_bin frame.rate frame.seed frame.psdu n bin)
+    (entry (received (body_of samples n)) bin)
+
+-- samples say, by their plain decisions, the header of a frame, and have its seed and its PSDU as field
+abbrev pub IsReadFrom : List Sample → SentFrame → Type 0
+IsReadFrom samples frame =
+    let header = sent_header frame.rate frame.psdu in
+    let decisions = plain_decisions samples in
+    SaysHeader decisions (Ok header) × HasField decisions header frame.seed frame.psdu
+
+-- so do samples that begin within half the noise bound of its rate of the echoed frame
+abbrev pub EchoedFrameIsRead : Type 0
+EchoedFrameIsRead =
+    (bound : ℕ) (taps : List Cx) (samples : List Sample) (frame : SentFrame) → IsEcho taps
+    → IsFrame frame → bound ≤ echo_bound_of frame.rate → BeginsNearEchoed bound taps samples frame
+    → IsReadFrom samples frame
+
+-- the echo of a frame's sent samples is near the echoed frame
+abbrev pub EchoIsNear : Type 0
+EchoIsNear =
+    (taps : List Cx) (frame : SentFrame) → IsEcho taps
+    → BeginsNearEchoed 2 taps (echo_of taps (sent_of frame)) frame
+
+-- at each place it is what comes together there, over 1024 and rounded half up, with nothing held
+abbrev pub EchoIsNotHeld : Type 0
+EchoIsNotHeld =
+    (taps : List Cx) (frame : SentFrame) (place : ℕ) → IsEcho taps
+    → held_sample (gathered taps (pairs_at (sent_of frame)) place)
+    ≡ as_sample (rounded_pair 10 (gathered taps (pairs_at (sent_of frame)) place))
+
+-- and it is read as the frame that was sent
+abbrev pub EchoIsRead : Type 0
+EchoIsRead =
+    (taps : List Cx) (frame : SentFrame) → IsEcho taps → IsFrame frame
+    → IsReadFrom (echo_of taps (sent_of frame)) frame
