@@ -73,13 +73,13 @@ record Fits (capture : List Sample) (from : ℕ) (heard : Heard) : Type 0 where
 next_fits : (capture : List Sample) (from : ℕ) (heard : Heard) → length capture ≤ most_text → HearsNext capture from heard → Fits capture from heard
 next_fits capture from heard most h =
     let long : 2 * heard.length + 51 ≤ 400 + 80 * symbol_count (row_of heard.rate).field_bits heard.length = frame_is_long heard.rate heard.length in
-    let few : length heard.psdu ≤ heard.length = rw (h.field.1.psdu_is, h.octets) (octets_few h.header.length (drop 16 (scrambled heard.seed h.field.1.bits))) in
-    let whole : end_of heard ≤ length capture = rw (h.rate, h.octets) h.whole in
+    let few : length heard.psdu ≤ heard.length = rw (h.frame.field.1.psdu_is, h.frame.octets) (octets_few h.header.length (drop 16 (scrambled heard.seed h.frame.field.1.bits))) in
+    let whole : end_of heard ≤ length capture = rw (h.frame.rate, h.frame.octets) h.frame.whole in
     record {
       least = h.next.least;
       room = omega (arith, long, few);
       whole = whole;
-      line = line_short heard (omega (arith, whole, most)) (omega (arith, whole, most, long)) (omega (arith, h.field.1.names.seven_bits));
+      line = line_short heard (omega (arith, whole, most)) (omega (arith, whole, most, long)) (omega (arith, h.frame.field.1.names.seven_bits));
     }
 
 -- the lines of frames have no more bytes than samples stand up to where the last one ends

@@ -2,10 +2,12 @@
 #![tactic(auto)]
 
 mod findings;
+mod frames;
 pub mod laws;
 mod reports;
 #[cfg(test)]
 mod tests;
 
 pub use findings::Lines;
+pub use frames::frame_text;
 pub use reports::reports_text;

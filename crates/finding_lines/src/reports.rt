@@ -64,7 +64,7 @@ fn push_number(text: &mut Vec<u8>, number: u32) -> Result<(), AllocError>
 }
 
 // Appends a number in decimal, and a space.
-fn push_spaced(text: &mut Vec<u8>, number: u32) -> Result<(), AllocError>
+pub(crate) fn push_spaced(text: &mut Vec<u8>, number: u32) -> Result<(), AllocError>
     ensures { OnOk result (text.new.items ≡ text.old.items ++ spaced number) }
 {
     push_number(text, number)?;

@@ -17,10 +17,10 @@ use Rattle.frame_findings.proofs.Chosen.{next_front, next_is_some, next_or_none,
 
 -- the end of a frame that is heard is the place of its header and its samples
 pub end_is : (capture : List Sample) (from : ℕ) (heard : Heard) → (hears : HearsNext capture from heard) → end_of heard ≡ heard.start + need_of hears.header
-end_is capture from heard hears = rw (hears.rate, hears.octets) refl
+end_is capture from heard hears = rw (hears.frame.rate, hears.frame.octets) refl
 
 -- frames are heard alike
-heard_alike : (heard other : Heard) → heard.start ≡ other.start → heard.rate ≡ other.rate → heard.length ≡ other.length → heard.seed ≡ other.seed
+pub heard_alike : (heard other : Heard) → heard.start ≡ other.start → heard.rate ≡ other.rate → heard.length ≡ other.length → heard.seed ≡ other.seed
     → heard.psdu ≡ other.psdu → heard ≡ other
 heard_alike heard other start rate octets seed psdu =
     ap (λ place. record heard { start = place }) start
@@ -35,9 +35,10 @@ one_heard capture from heard other first second =
     let same = one_next capture from heard.start other.start first.header second.header first.next second.next in
     let start = same.0 in
     let header = same.1 in
-    let there = rw (sym start, sym header) at second.field in
-    let field = one_field (plain_decisions (drop heard.start capture)) first.header heard.seed other.seed heard.psdu other.psdu first.field there in
-    heard_alike heard other start (first.rate ∙ ap (λ h. h.rate) header ∙ sym second.rate) (first.octets ∙ ap (λ h. h.length) header ∙ sym second.octets)
+    let there = rw (sym start, sym header) at second.frame.field in
+    let field = one_field (plain_decisions (drop heard.start capture)) first.header heard.seed other.seed heard.psdu other.psdu first.frame.field there in
+    heard_alike heard other start (first.frame.rate ∙ ap (λ h. h.rate) header ∙ sym second.frame.rate)
+    (first.frame.octets ∙ ap (λ h. h.length) header ∙ sym second.frame.octets)
     field.0 field.1
 
 cuts_alike : (cut other : Cut) → cut.start ≡ other.start → cut.have ≡ other.have → cut.need ≡ other.need → cut ≡ other
@@ -67,7 +68,7 @@ goes_on capture from (Some cut) heard ends hears =
     let same = one_next capture from cut.start heard.start ends.header hears.header ends.next hears.next in
     let start = same.0 in
     let need : need_of ends.header ≡ need_of hears.header = ap need_of same.1 in
-    omega (arith, start, need, ends.have, ends.need, ends.short, hears.whole)
+    omega (arith, start, need, ends.have, ends.need, ends.short, hears.frame.whole)
 
 -- the rest of a walk
 pub record GoesOn (capture : List Sample) (all begun : List Heard) (from upto : ℕ) : Type 0 where
@@ -105,16 +106,18 @@ one_findings capture heard other cut end first second =
 -- in the front of longer samples
 hears_front : (xs ys : List Sample) (from : ℕ) (heard : Heard) → HearsNext xs from heard → HearsNext (xs ++ ys) from heard
 hears_front xs ys from heard hears =
-    let whole = hears.whole in
+    let whole = hears.frame.whole in
     let inside : heard.start ≤ length xs = omega arith in
     let front = drop-append-le heard.start xs ys inside in
     record {
       header = hears.header;
       next = next_front xs ys from heard.start hears.header hears.next;
-      whole = omega (arith, length-append xs ys);
-      rate = hears.rate;
-      octets = hears.octets;
-      field = rw front (field_front (drop heard.start xs) ys hears.header heard.seed heard.psdu (omega (arith, length-drop heard.start xs)) hears.field);
+      frame = record {
+        whole = omega (arith, length-append xs ys);
+        rate = hears.frame.rate;
+        octets = hears.frame.octets;
+        field = rw front (field_front (drop heard.start xs) ys hears.header heard.seed heard.psdu (omega (arith, length-drop heard.start xs)) hears.frame.field);
+      };
     }
 
 pub walks_front : (xs ys : List Sample) (from upto : ℕ) (heard : List Heard) → Walks xs from heard upto → Walks (xs ++ ys) from heard upto
@@ -158,10 +161,7 @@ whole_or_cut capture from place header next =
             record {
               header = header;
               next = next;
-              whole = whole;
-              rate = refl;
-              octets = refl;
-              field = field.1.1;
+              frame = record { whole = whole; rate = refl; octets = refl; field = field.1.1 };
             },
           )
     ]

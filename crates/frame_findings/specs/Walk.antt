@@ -1,6 +1,7 @@
 -- The walk over a capture: all frames in order, and at most one cut (own).
 use Rattle.std.specs.Prelude.{◌≡◌, ℕ, ◌+◌, ◌*◌, ◌<◌, ◌≤◌, List, [], ◌∷◌, length, drop, Option, Some, None}
 use Rattle.fixed_complex.specs.declared.Sample.{Sample}
+use Rattle.rate_table.specs.declared.Rate.{Rate}
 use Rattle.rate_table.specs.Symbols.{symbol_count}
 use Rattle.rate_table.specs.Table.{row_of}
 use Rattle.signal_field.specs.declared.Header.{Header}
@@ -28,15 +29,20 @@ pub record IsNextChosen (capture : List Sample) (from place : ℕ) (header : Hea
   pub chosen : IsChosen capture place header
   pub none_before : NoneChosen capture from place
 
--- the next frame from a place on is whole, and heard: the rate and LENGTH of its header, and the number and the PSDU of
--- its field
-pub record HearsNext (capture : List Sample) (from : ℕ) (heard : Heard) : Type 0 where
-  pub header : Header
-  pub next : IsNextChosen capture from heard.start header
+-- a frame with a header is heard, by decisions of its symbols: all its samples stand in the capture, and it has the rate
+-- and LENGTH of the header, and the number and the PSDU of its field
+pub record IsHeard (decisions : Rate → ℕ → List ℕ) (capture : List Sample) (header : Header) (heard : Heard)
+    : Type 0 where
   pub whole : heard.start + need_of header ≤ length capture
   pub rate : heard.rate ≡ header.rate
   pub octets : heard.length ≡ header.length
-  pub field : HasField (plain_decisions (drop heard.start capture)) header heard.seed heard.psdu
+  pub field : HasField decisions header heard.seed heard.psdu
+
+-- the next frame from a place on is heard, by the plain decisions
+pub record HearsNext (capture : List Sample) (from : ℕ) (heard : Heard) : Type 0 where
+  pub header : Header
+  pub next : IsNextChosen capture from heard.start header
+  pub frame : IsHeard (plain_decisions (drop heard.start capture)) capture header heard
 
 -- the capture ends in the next frame from a place on: so many samples stand of the so many that it has by its header
 pub record CutsNext (capture : List Sample) (from : ℕ) (cut : Cut) : Type 0 where

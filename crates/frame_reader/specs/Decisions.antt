@@ -22,6 +22,15 @@ decisions_of rate estimate body = deinterleaved rate (interleaved_decisions rate
 abbrev pub body_of : List Sample → ℕ → List Sample
 body_of samples n = part samples (336 + 80 * n) 64
 
--- the decisions of symbol n over the estimate from the same samples: symbol 0 is SIGNAL, symbol m + 1 is DATA symbol m
+-- how a symbol is decided: the decisions at a rate, by its number, over an estimate, of its body
+abbrev pub Deciding : Type 0
+Deciding = Rate → ℕ → List Cx → List Sample → List ℕ
+
+-- the decisions of symbol n over the estimate from the same samples, by a way of deciding: symbol 0 is SIGNAL, symbol
+-- m + 1 is DATA symbol m
+abbrev pub decisions_by : Deciding → List Sample → Rate → ℕ → List ℕ
+decisions_by decided samples rate n = decided rate n (estimate_from samples) (body_of samples n)
+
+-- the plain ones: over the estimate alone
 unfoldable pub plain_decisions : List Sample → Rate → ℕ → List ℕ
 plain_decisions samples rate n = decisions_of rate (estimate_from samples) (body_of samples n)

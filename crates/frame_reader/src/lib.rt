@@ -2,12 +2,14 @@
 //! memory.
 #![tactic(auto)]
 
+mod deciders;
 mod fields;
 pub mod laws;
 mod symbols;
 
+pub use deciders::{Decider, PlainDecider};
 pub use fields::finish_field;
-pub use symbols::{hear_symbol, look};
+pub use symbols::{hear_symbol, look, read_front, symbols_in};
 
 #[cfg(test)]
 mod tests;

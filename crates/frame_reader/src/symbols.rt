@@ -1,7 +1,6 @@
 //! What the preamble and SIGNAL say, and the DATA symbols behind them.
 ghost use Rattle.std.specs.Prelude.{◌≡◌, ℕ, ◌+◌, ◌-◌, ◌*◌, ◌<◌, ◌≤◌, ◌↔◌, List, [], ◌++◌, length, take, true, false, Some, Ok, IfSome, IfNone, IfOk};
-ghost use Rattle.bit_lists.specs.Bits.{AreBits};
-ghost use Rattle.frame_reader.specs.Decisions.{decisions_of, estimate_from, plain_decisions};
+ghost use Rattle.frame_reader.specs.Decisions.{decisions_by, estimate_from, plain_decisions};
 ghost use Rattle.frame_reader.specs.Frames.{Opens, SaysHeader, symbols_of};
 ghost use Rattle.frame_search.specs.Match.{matches, part};
 ghost use Rattle.modem_ports.specs.Counts.{raised_by};
@@ -11,10 +10,10 @@ ghost use Rattle.signal_field.specs.declared.Header.{Header};
 ghost use Rattle.viterbi_lanes.specs.Decisions.{carried_steps, marks_of};
 ghost use Rattle.viterbi_lanes.specs.Marks.{StandsFor};
 
+use crate::deciders::{Decider, PlainDecider};
 use carrier_equaliser::{Estimate, carriers_of};
 use fixed_complex::Sample;
 use frame_search::matches_template;
-use interleave_two::deinterleave;
 use modem_ports::Steps;
 use rate_table::Rate;
 use signal_field::{Header, HeaderFault, read_header};
@@ -49,8 +48,36 @@ pub fn look(
     if !matches_template(samples, 0, steps) {
         return None;
     }
+    Some(read_front(&PlainDecider, samples, trellis, estimate, steps))
+}
+
+/// Reads the front of a frame at a place that is given, with no edge and no match (own): the first 400 samples give the
+/// estimate of the channel, by both bodies of the long training field, and SIGNAL says a header or its fault, by the
+/// decisions over the estimate. More samples may follow.
+///
+/// The trellis has room for 24 steps at least; it holds nothing afterwards. The count of steps rises by exactly 27. Takes
+/// no memory.
+pub fn read_front<D: Decider>(
+    decider: &D,
+    samples: &[Sample],
+    trellis: &mut Trellis,
+    estimate: &mut Estimate,
+    steps: &mut Steps,
+) -> Result<Header, HeaderFault>
+    requires long { 400 ≤ length samples.now }
+    requires room { 24 ≤ trellis.old.room }
+    ensures says { SaysHeader (decisions_by D.decided samples.now) result }
+    ensures octets { IfOk result (λ header. IsLength header.length) }
+    ensures estimate { estimate.new ≡ estimate_from samples.now }
+    ensures stands { StandsFor trellis.new [] }
+    ensures room { trellis.new.room ≡ trellis.old.room }
+    ensures counted { steps.new ≡ raised_by 27 steps.old }
+{
     *estimate = estimate_of_channel(samples, steps);
-    Some(read_signal(samples, estimate, trellis, steps))
+    let body = body_at(samples, 336);
+    let signal = decider.decide(Rate::R6, 0, estimate, &body, steps);
+    let decisions = signal_decisions(&signal);
+    read_header(trellis, &decisions, steps)
 }
 
 /// Hears the body of one DATA symbol of a frame whose symbols before it were heard: the marks of its decisions over the
@@ -58,7 +85,8 @@ pub fn look(
 ///
 /// LENGTH is 1 to 4095, symbols are numbered from 0, and the trellis has room for the whole field. The count of steps
 /// rises by one, and one more for each step that the symbol carries, so by at most 217. Takes no memory.
-pub fn hear_symbol(
+pub fn hear_symbol<D: Decider>(
+    decider: &D,
     body: &[Sample; 64],
     estimate: &Estimate,
     header: &Header,
@@ -78,8 +106,10 @@ pub fn hear_symbol(
         (carried_steps header.now.rate header.now.length symbol))
         → StandsFor trellis.new
         (marks_of (row_of header.now.rate).code_rate
-        (before ++ decisions_of header.now.rate estimate.now body.now)
+        (before ++ D.decided header.now.rate (symbol + 1) estimate.now body.now)
         (carried_steps header.now.rate header.now.length (symbol + 1))) }
+    ensures as_many { length (D.decided header.now.rate (symbol + 1) estimate.now body.now)
+        ≡ (row_of header.now.rate).coded_bits }
     ensures held { length trellis.new.rows
         ≡ carried_steps header.now.rate header.now.length (symbol + 1) }
     ensures room { trellis.new.room ≡ trellis.old.room }
@@ -92,7 +122,7 @@ pub fn hear_symbol(
     ensures counted_at_most { steps.new ≤ steps.old + 217 }
 {
     let rate = header.rate;
-    let decisions = decisions_in_order(rate, estimate, body, steps);
+    let decisions = decider.decide(rate, symbol as u32 + 1, estimate, body, steps);
     trellis.feed_symbol(
         rate,
         header.length,
@@ -102,25 +132,16 @@ pub fn hear_symbol(
     );
 }
 
-// What SIGNAL says, over the estimate of the channel.
-fn read_signal(
-    samples: &[Sample; 400],
-    estimate: &Estimate,
-    trellis: &mut Trellis,
-    steps: &mut Steps,
-) -> Result<Header, HeaderFault>
-    requires estimate { estimate.now ≡ estimate_from samples.now }
-    requires room { 24 ≤ trellis.old.room }
-    ensures says { SaysHeader (plain_decisions samples.now) result }
-    ensures octets { IfOk result (λ header. IsLength header.length) }
-    ensures stands { StandsFor trellis.new [] }
-    ensures room { trellis.new.room ≡ trellis.old.room }
-    ensures counted { steps.new ≡ raised_by 25 steps.old }
+/// N_SYM of a header, 1 to 1366. LENGTH is 1 to 4095. Takes no memory.
+pub fn symbols_in(header: &Header) -> usize
+    requires { IsLength header.now.length }
+    ensures value { result ≡ symbols_of header.now }
+    ensures some { 1 ≤ result }
+    ensures most { result ≤ 1366 }
+    ensures all { carried_steps header.now.rate header.now.length result
+        ≡ bits_through_tail header.now.length }
 {
-    let body = body_at(samples, 336);
-    let signal = decisions_in_order(Rate::R6, estimate, &body, steps);
-    let decisions = signal_decisions(&signal);
-    read_header(trellis, &decisions, steps)
+    header.rate.symbols(header.length) as usize
 }
 
 // The decisions of SIGNAL, without the zeros behind them.
@@ -133,7 +154,8 @@ fn signal_decisions(signal: &[u8; 288]) -> [u8; 48]
 }
 
 // The estimate of the channel, from both bodies of the long training field.
-fn estimate_of_channel(samples: &[Sample; 400], steps: &mut Steps) -> Estimate
+fn estimate_of_channel(samples: &[Sample], steps: &mut Steps) -> Estimate
+    requires { 320 ≤ length samples.now }
     ensures value { result ≡ estimate_from samples.now }
     ensures counted { steps.new ≡ raised_by 2 steps.old }
 {
@@ -143,28 +165,11 @@ fn estimate_of_channel(samples: &[Sample; 400], steps: &mut Steps) -> Estimate
 }
 
 // The 64 samples from a place on.
-fn body_at(samples: &[Sample; 400], place: usize) -> [Sample; 64]
-    requires { place + 64 ≤ 400 }
+fn body_at(samples: &[Sample], place: usize) -> [Sample; 64]
+    requires { place + 64 ≤ length samples.now }
     ensures { result ≡ part samples.now place 64 }
 {
     let mut body = [Sample { i: 0, q: 0 }; 64];
     body.copy_from_slice(&samples[place..place + 64]);
     body
-}
-
-// The decisions of a symbol's body, in the order of the code, and zeros behind them.
-fn decisions_in_order(
-    rate: Rate,
-    estimate: &Estimate,
-    body: &[Sample; 64],
-    steps: &mut Steps,
-) -> [u8; 288]
-    ensures list { take (row_of rate).coded_bits result ≡ decisions_of rate estimate.now body.now }
-    ensures bits { AreBits result }
-    ensures counted { steps.new ≡ raised_by 1 steps.old }
-{
-    let carriers = carriers_of(body, steps);
-    let mut decisions = [0; 288];
-    estimate.decisions(rate, &carriers, &mut decisions);
-    deinterleave(rate, &decisions)
 }

@@ -3,7 +3,7 @@ ghost use Rattle.frame_reader.specs.Frames.{symbols_of};
 ghost use Rattle.rate_table.specs.Symbols.{IsLength, bits_through_tail};
 ghost use Rattle.rate_table.specs.Table.{row_of};
 
-use crate::{finish_field, hear_symbol, look};
+use crate::{PlainDecider, finish_field, hear_symbol, look, read_front};
 use carrier_equaliser::Estimate;
 use fixed_complex::Sample;
 use frame_fields::frame_samples;
@@ -53,6 +53,7 @@ fn hear_symbols(
 {
     for symbol in 0..symbols {
         hear_symbol(
+            &PlainDecider,
             &body(samples, symbol),
             estimate,
             header,

@@ -157,10 +157,7 @@ hears_on r x from at estimate trellis number psdu within long last field =
     record {
       header = at.header;
       next = next_front r (x ∷ []) from at.place at.header within.next;
-      whole = omega arith;
-      rate = refl;
-      octets = refl;
-      field = field;
+      frame = record { whole = omega arith; rate = refl; octets = refl; field = field };
     }
 
 -- a walk, and one frame more

@@ -23,7 +23,7 @@ use carrier_equaliser::Estimate;
 use circular_buffer::HeapCircularBuffer;
 use fixed_complex::Sample;
 use frame_findings::Cut;
-use frame_reader::{finish_field, hear_symbol, look};
+use frame_reader::{PlainDecider, finish_field, hear_symbol, look, symbols_in};
 use frame_search::tick_times;
 use modem_ports::Steps;
 use rate_table::Rate;
@@ -300,7 +300,15 @@ fn hear_last(tail: &Tail, estimate: &Estimate, at: &At, trellis: &mut Trellis, s
 {
     let mut body = [SILENCE; 64];
     tail.put_last(&mut body);
-    hear_symbol(&body, estimate, &at.header, at.symbols, trellis, steps);
+    hear_symbol(
+        &PlainDecider,
+        &body,
+        estimate,
+        &at.header,
+        at.symbols,
+        trellis,
+        steps,
+    );
 }
 
 // How many samples may come before the last one of the symbol.
@@ -310,16 +318,4 @@ fn left_of_symbol(at: &At, count: usize) -> usize
     ensures { result + 1 + count ≡ at.now.place + 480 + 80 * at.now.symbols }
 {
     at.place + 479 + 80 * at.symbols - count
-}
-
-// N_SYM of a header.
-fn symbols_in(header: &Header) -> usize
-    requires { IsLength header.now.length }
-    ensures value { result ≡ symbols_of header.now }
-    ensures some { 1 ≤ result }
-    ensures most { result ≤ 1366 }
-    ensures all { carried_steps header.now.rate header.now.length result
-        ≡ bits_through_tail header.now.length }
-{
-    header.rate.symbols(header.length) as usize
 }

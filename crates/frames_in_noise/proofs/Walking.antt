@@ -93,10 +93,12 @@ module _ (capture : List Sample) (frame : SentFrame) (frames : List SentFrame) (
       chosen = chosen;
       none_before = none_among_quiet capture from frame.start quiet_before;
     };
-    whole = stand.1;
-    rate = refl;
-    octets = refl;
-    field = (frame_is_read (noise_bound_of frame) (drop frame.start capture) frame is (omega arith) begins).1;
+    frame = record {
+      whole = stand.1;
+      rate = refl;
+      octets = refl;
+      field = (frame_is_read (noise_bound_of frame) (drop frame.start capture) frame is (omega arith) begins).1;
+    };
   }
 
   -- and behind it the others do

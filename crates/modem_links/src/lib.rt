@@ -6,6 +6,7 @@
 pub use frame_fields::{Field, SendFault, coded, decode_field, frame_samples, send};
 pub use frame_findings::{Cut, EdgeReport, Finding, Heard, HeardList, Reception, inspect};
 pub use frame_receiver::{Found, ReceiveFault, Receiver, receive};
+pub use frame_starts::AtFault;
 pub use list_texts::Entry;
 pub use send_lists::{ListFault, SendList};
 

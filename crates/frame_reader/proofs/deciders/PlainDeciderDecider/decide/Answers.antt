@@ -2,7 +2,7 @@ use Rattle.std.proofs.Common.{ap, ◌∙◌}
 use Rattle.interleave_two.specs.Place.{deinterleaved}
 use Rattle.carrier_equaliser.specs.Decided.{interleaved_decisions}
 use Rattle.frame_reader.specs.Decisions.{decisions_of}
-use Rattle.frame_reader.proofs.symbols.decisions_in_order.Goals as goal
+use Rattle.frame_reader.proofs.deciders.PlainDeciderDecider.decide.Goals as goal
 
 pub returns-clause-list : goal.returns-clause-list
 unfolding decisions_of
