@@ -1,23 +1,19 @@
 -- Bodies that come back over a channel: the estimate by the long training field, and a symbol's bits.
-use Rattle.std.proofs.Common.{◌≡◌, ℕ, ◌*◌, ◌<◌, true, eqb, List, length, refl, ap, subst, ◌∙◌, arith, pos, ◌*ℤ◌, unsigned_abs}
+use Rattle.std.proofs.Common.{◌≡◌, ℕ, ◌*◌, ◌<◌, true, eqb, List, refl, ap, subst, ◌∙◌, arith, pos, ◌*ℤ◌, unsigned_abs}
 use Rattle.std.proofs.lemmas.Bool.{agree_below_at, eqb-true}
 use Rattle.integer_laws.proofs.Order.{square_is}
-use Rattle.bit_lists.specs.Bits.{AreBits}
 use Rattle.fixed_complex.specs.declared.Cx.{Cx}
-use Rattle.fixed_complex.specs.PairLists.{PairsWithin, entry}
+use Rattle.fixed_complex.specs.PairLists.{entry}
 use Rattle.fixed_complex.specs.Pairs.{multiple, plus}
 use Rattle.fixed_complex.proofs.PairLists.{entry-map}
-use Rattle.rate_table.specs.declared.Rate.{Rate}
-use Rattle.rate_table.specs.Table.{row_of}
-use Rattle.carrier_bins.specs.Bins.{by_bin, carrier_in}
+use Rattle.carrier_bins.specs.Bins.{carrier_in}
 use Rattle.carrier_bins.specs.Carriers.{bin_of, data_carrier_of}
 use Rattle.carrier_bins.specs.Signs.{sign_at}
-use Rattle.training_fields.specs.Training.{long_carrier, long_sign_of}
-use Rattle.symbol_builder.specs.Carriers.{symbol_bin}
+use Rattle.training_fields.specs.Training.{long_sign_of}
 use Rattle.symbol_builder.specs.Points.{points_of_code}
 use Rattle.symbol_builder.proofs.Bins.{point_there}
 use Rattle.carrier_equaliser.specs.Estimates.{estimate_at, estimate_of}
-use Rattle.decided_axis.specs.Channels.{Allows, AreCarried, IsAtLeastOfSize, IsCarried, IsOver}
+use Rattle.decided_axis.specs.Channels.{IsCarried}
 use Rattle.decided_axis.specs.Laws.{DecidedByBodies, EstimatedByBodies, data_bin}
 use Rattle.decided_axis.proofs.Channels.{by_two}
 use Rattle.decided_axis.proofs.Symbols.{data_bin-lt, symbol_decided}

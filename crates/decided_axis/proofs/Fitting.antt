@@ -1,9 +1,7 @@
 -- Bodies of the long training field and of symbols fit.
-use Rattle.std.proofs.Common.{◌≡◌, ℕ, ◌<◌, List, length, arith}
+use Rattle.std.proofs.Common.{◌≡◌, ℕ, List, length, arith}
 use Rattle.bit_lists.specs.Bits.{AreBits}
-use Rattle.fixed_complex.specs.declared.Cx.{Cx}
 use Rattle.fixed_complex.specs.PairLists.{PairsWithin}
-use Rattle.fixed_complex.specs.Pairs.{IsWithin}
 use Rattle.fixed_complex.proofs.PairLists.{entry-map, everywhere_within}
 use Rattle.fixed_complex.proofs.PairSizes.{within_wider}
 use Rattle.rate_table.specs.declared.Rate.{Rate}

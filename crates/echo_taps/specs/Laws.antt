@@ -5,7 +5,7 @@ use Rattle.fixed_complex.specs.declared.Sample.{Sample}
 use Rattle.fixed_complex.specs.Laws.{sum_below}
 use Rattle.fixed_complex.specs.PairLists.{entry}
 use Rattle.fixed_complex.specs.Pairs.{IsOfSize, IsWithin, minus, times}
-use Rattle.fixed_complex.specs.Samples.{sample_at}
+use Rattle.fixed_complex.specs.Samples.{AreSamples, sample_at}
 use Rattle.echo_taps.specs.Echoes.{echo_of, gathered, held_sample, pairs_at}
 use Rattle.echo_taps.specs.Taps.{IsEcho}
 use Rattle.echo_taps.specs.Texts.{SaysPairs}
@@ -50,3 +50,7 @@ abbrev pub EchoAtPlace : Type 0
 EchoAtPlace =
     (taps : List Cx) (samples : List Sample) (place : ℕ) → place < length samples + 7
     → sample_at (echo_of taps samples) place ≡ held_sample (gathered taps (pairs_at samples) place)
+
+-- whatever samples are, their echo has 16 bits
+abbrev pub EchoIsSamples : Type 0
+EchoIsSamples = (taps : List Cx) (samples : List Sample) → AreSamples (echo_of taps samples)

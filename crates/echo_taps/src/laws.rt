@@ -1,5 +1,5 @@
 //! What holds of texts of taps. The functions do nothing: what each ensures is the law.
-ghost use Rattle.echo_taps.specs.Laws.{EchoAtPlace, EchoBesideFirst, EchoIsLong, EchoOfSize, EchoWithin, OnePairs, PairsAreEcho};
+ghost use Rattle.echo_taps.specs.Laws.{EchoAtPlace, EchoBesideFirst, EchoIsLong, EchoIsSamples, EchoOfSize, EchoWithin, OnePairs, PairsAreEcho};
 ghost use Rattle.echo_taps.specs.Texts.{IsTapText};
 ghost use Rattle.word_grammar.specs.Places.{HasNoPlace, HasOnePlace, IsDecided};
 
@@ -30,8 +30,9 @@ pub fn sums_over_an_echo()
 {}
 
 /// An echo is seven samples longer than what it is of, and each sample is what comes together at its place, rounded and
-/// held (own).
+/// held, so it has 16 bits (own).
 pub fn places_of_an_echo()
     ensures length { EchoIsLong }
     ensures sample { EchoAtPlace }
+    ensures of_16_bits { EchoIsSamples }
 {}
