@@ -1,5 +1,5 @@
 -- What the laws of frames in echoes state (own).
-use Rattle.std.specs.Prelude.{◌≡◌, ℕ, ◌<◌, ◌≤◌, List, length, Ok}
+use Rattle.std.specs.Prelude.{◌≡◌, ℕ, ◌<◌, ◌≤◌, List, drop, length, Ok}
 use Rattle.fixed_complex.specs.declared.Cx.{Cx}
 use Rattle.fixed_complex.specs.declared.Sample.{Sample}
 use Rattle.fixed_complex.specs.PairLists.{entry}
@@ -20,7 +20,8 @@ use Rattle.frame_lists.specs.Near.{SentFrame}
 use Rattle.frame_reader.specs.Decisions.{body_of, plain_decisions}
 use Rattle.frame_reader.specs.Frames.{HasField, SaysHeader}
 use Rattle.exact_decisions.specs.Laws.{sent_header}
-use Rattle.frames_in_noise.specs.Laws.{IsFrame}
+use Rattle.frame_starts.specs.Starts.{IsFrameAt}
+use Rattle.frames_in_noise.specs.Laws.{IsFrame, heard_of}
 use Rattle.frames_in_echoes.specs.Waves.{BeginsNearEchoed, sent_of}
 
 -- the carriers of both long bodies, which stand at 192 and 256, come back over their channels
@@ -72,3 +73,17 @@ abbrev pub EchoIsRead : Type 0
 EchoIsRead =
     (taps : List Cx) (frame : SentFrame) → IsEcho taps → IsFrame frame
     → IsReadFrom (echo_of taps (sent_of frame)) frame
+
+-- so the frame at the start of an echoed frame is the one that was sent
+abbrev pub EchoedFrameIsThere : Type 0
+EchoedFrameIsThere =
+    (bound : ℕ) (taps : List Cx) (capture : List Sample) (frame : SentFrame) → IsEcho taps
+    → IsFrame frame → bound ≤ echo_bound_of frame.rate
+    → BeginsNearEchoed bound taps (drop frame.start capture) frame
+    → IsFrameAt plain_decisions capture frame.start (Ok (heard_of frame))
+
+-- and so is the frame at the start of the echo of a frame's sent samples
+abbrev pub EchoIsThere : Type 0
+EchoIsThere =
+    (taps : List Cx) (frame : SentFrame) → IsEcho taps → IsFrame frame → frame.start ≡ 0
+    → IsFrameAt plain_decisions (echo_of taps (sent_of frame)) 0 (Ok (heard_of frame))

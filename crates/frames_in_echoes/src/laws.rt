@@ -1,6 +1,6 @@
 //! What holds of frames in echoes. The functions do nothing: what each ensures is the law.
 
-ghost use Rattle.frames_in_echoes.specs.Laws.{EchoIsNear, EchoIsNotHeld, EchoIsRead, EchoedFrameIsRead, LongBodiesComeBack, SymbolsComeBack};
+ghost use Rattle.frames_in_echoes.specs.Laws.{EchoIsNear, EchoIsNotHeld, EchoIsRead, EchoIsThere, EchoedFrameIsRead, EchoedFrameIsThere, LongBodiesComeBack, SymbolsComeBack};
 
 /// The cyclic prefix theorem, in a frame (own). Samples that begin within a bound B of an echoed frame bring each carrier
 /// of both long bodies, and of each symbol, within 32 times 2.829*B + 2.77, in size, of 32 times the carrier that was
@@ -11,9 +11,11 @@ pub fn echoed_carriers_come_back()
 {}
 
 /// Samples that begin within half the noise bound of a frame's rate of the echoed frame say, by their plain decisions,
-/// the header that was sent, and have the seed and the PSDU that were sent as their field (own).
+/// the header that was sent, and have the seed and the PSDU that were sent as their field; so in a capture the frame at
+/// their start is the one that was sent (own).
 pub fn an_echoed_frame_is_read()
-    ensures { EchoedFrameIsRead }
+    ensures read { EchoedFrameIsRead }
+    ensures there { EchoedFrameIsThere }
 {}
 
 /// The echo of a frame's sent samples begins within 2 of the echoed frame, and none of it is held at the ends of the
@@ -23,7 +25,9 @@ pub fn echoes_of_sent_frames()
     ensures not_held { EchoIsNotHeld }
 {}
 
-/// So the echo of a frame's sent samples, by any taps, says header and field that were sent (own).
+/// So the echo of a frame's sent samples, by any taps, says header and field that were sent, and the frame at its start
+/// is the one that was sent (own).
 pub fn the_echo_of_a_frame_is_read()
-    ensures { EchoIsRead }
+    ensures read { EchoIsRead }
+    ensures there { EchoIsThere }
 {}
