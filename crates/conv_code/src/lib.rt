@@ -1,7 +1,7 @@
 //! The convolutional code of rate 1/2 (IEEE Std 802.11-2012, 18.3.5.6).
 #![tactic(auto)]
 
-ghost use Rattle.std.specs.Prelude.{◌≡◌, ◌<◌, ◌+◌, ◌-◌, ℕ, List, length, slice_index, IfOk};
+ghost use Rattle.std.specs.Prelude.{◌≡◌, ◌<◌, ◌+◌, ◌-◌, ◌*◌, ◌++◌, ℕ, List, length, replicate, slice_index, IfOk};
 ghost use Rattle.bit_lists.specs.Bits.{AreBits, IsBit};
 ghost use Rattle.std.specs.Int.{bit_at};
 ghost use Rattle.conv_code.specs.Code.{Codes, code_of, parity_a, parity_b};
@@ -19,15 +19,23 @@ pub fn encode(alloc: Global, bits: &[u8]) -> Result<Vec<u8>, AllocError>
     ensures list { IfOk result (λ code. code.items ≡ code_of bits.now) }
     ensures bits { IfOk result (λ code. AreBits code.items) }
 {
-    let mut code = Vec::new(alloc);
-    let mut state = 0;
-    for bit in bits {
-        let (a, b) = branch(state, *bit);
-        code.push(a)?;
-        code.push(b)?;
-        state = next_state(state, *bit);
-    }
+    let mut inputs = vec![in alloc; 0u8; 6]?;
+    inputs.extend_from_slice(bits)?;
+    let mut code = vec![in alloc; 0u8; 2 * bits.len()]?;
+    put_code(&inputs, &mut code);
     Ok(code)
+}
+
+// Writes the code of a list of bits, which stands behind six zeros.
+fn put_code(inputs: &[u8], code: &mut [u8])
+    requires bits { AreBits inputs.now }
+    requires places { length code.old + 12 ≡ 2 * length inputs.now }
+    ensures { (u : List ℕ) → inputs.now ≡ replicate 6 0 ++ u → code.new ≡ code_of u }
+{
+    for i in 0..code.len() / 2 {
+        code[2 * i] = inputs[i + 6] ^ inputs[i + 4] ^ inputs[i + 3] ^ inputs[i + 1] ^ inputs[i];
+        code[2 * i + 1] = inputs[i + 6] ^ inputs[i + 5] ^ inputs[i + 4] ^ inputs[i + 3] ^ inputs[i];
+    }
 }
 
 /// A and B of a step with an input bit from a state, 0 to 63, whose bit j is the input j + 1 steps ago (A and B: IEEE

@@ -9,8 +9,10 @@ ghost use Rattle.interleave_two.specs.Place.{first_place, second_place, group_of
 ghost use Rattle.interleave_two.specs.Source.{first_source, second_source};
 
 use rate_table::Rate;
+use tables::{places_in_order, sources_in_order};
 
 pub mod examples;
+mod tables;
 
 /// The place, below N_CBPS, to which bit k of a symbol goes, for k below N_CBPS.
 pub fn place(rate: Rate, k: usize) -> usize
@@ -47,8 +49,9 @@ pub fn interleave(rate: Rate, bits: &[u8; 288]) -> [u8; 288]
         ≡ take (row_of rate).coded_bits bits.now }
 {
     let mut places = [0; 288];
+    let sources = sources_in_order(rate);
     for j in 0..rate.coded_bits() {
-        places[j] = bits[unplace(rate, j)];
+        places[j] = bits[usize::from(sources[j])];
     }
     places
 }
@@ -69,8 +72,9 @@ pub fn deinterleave(rate: Rate, bits: &[u8; 288]) -> [u8; 288]
         ≡ take (row_of rate).coded_bits bits.now }
 {
     let mut order = [0; 288];
+    let places = places_in_order(rate);
     for k in 0..rate.coded_bits() {
-        order[k] = bits[place(rate, k)];
+        order[k] = bits[usize::from(places[k])];
     }
     order
 }

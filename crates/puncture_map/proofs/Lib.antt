@@ -1,3 +1,4 @@
 pub mod Ranks
 pub mod Counts
 pub mod KeptBits
+pub mod Periods

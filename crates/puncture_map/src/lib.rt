@@ -2,9 +2,9 @@
 //! has two places, A and then B. Periods run through the whole field without a restart.
 #![tactic(auto)]
 
-ghost use Rattle.std.specs.Prelude.{◌≡◌, ℕ, ◌*◌, ◌≤◌, ◌^◌, IfOk, length, vec_len};
+ghost use Rattle.std.specs.Prelude.{◌≡◌, ℕ, ◌+◌, ◌*◌, ◌%◌, ◌<◌, ◌≤◌, ◌^◌, IfOk, OnOk, length, map, slice_index, vec_len};
 ghost use Rattle.bit_lists.specs.Bits.{AreBits};
-ghost use Rattle.puncture_map.specs.Kept.{is_kept, kept_count, kept_list, period_of, count_by_periods};
+ghost use Rattle.puncture_map.specs.Kept.{is_kept, kept_count, kept_list, kept_places, period_of, count_by_periods};
 ghost use Rattle.puncture_map.specs.WholeSymbols.{CountsWholeSymbols, LeavesWholeSymbols, LeavesSymbolBySymbol};
 
 use rate_table::CodeRate;
@@ -21,6 +21,33 @@ pub fn kept(rate: CodeRate, place: usize) -> bool
         CodeRate::TwoThirds => place % 4 < 3,
         CodeRate::ThreeQuarters => place % 6 < 3 || place % 6 == 5,
     }
+}
+
+/// Whether the places of a step, for A and for B, are kept, by how many steps of its period stand before it (18.3.5.6).
+/// Takes no memory.
+pub fn kept_in_period(rate: CodeRate, phase: usize) -> (bool, bool)
+    requires { phase < period_of rate }
+    ensures first { (step : ℕ) → step % period_of rate ≡ phase
+        → result.0 ≡ is_kept rate (2 * step) }
+    ensures second { (step : ℕ) → step % period_of rate ≡ phase
+        → result.1 ≡ is_kept rate (2 * step + 1) }
+{
+    match rate {
+        CodeRate::Half => (true, true),
+        CodeRate::TwoThirds => (true, phase == 0),
+        CodeRate::ThreeQuarters => (phase != 2, phase != 1),
+    }
+}
+
+/// How many steps of its period stand before the step behind one (own). Takes no memory.
+pub fn next_in_period(rate: CodeRate, phase: usize) -> usize
+    requires { phase < period_of rate }
+    ensures next { (step : ℕ) → step % period_of rate ≡ phase
+        → result ≡ (step + 1) % period_of rate }
+    ensures within { result < period_of rate }
+{
+    let next = phase + 1;
+    if next == period(rate) { 0 } else { next }
 }
 
 /// The number of kept places of the first so many steps, at most 2^20: those below twice that number (own). Takes
@@ -45,13 +72,56 @@ pub fn puncture(alloc: Global, rate: CodeRate, code: &[u8]) -> Result<Vec<u8>, A
     ensures whole_symbols { IfOk result (λ kept. LeavesWholeSymbols rate code.now kept.items) }
     ensures symbol_by_symbol { IfOk result (λ kept. LeavesSymbolBySymbol rate code.now kept.items) }
 {
-    let mut bits = Vec::new(alloc);
-    for (place, bit) in code.iter().enumerate() {
-        if kept(rate, place) {
-            bits.push(*bit)?;
+    let mut bits = Vec::with_capacity(alloc, code.len())?;
+    let places = 2 * period(rate);
+    let periods = code.len() / places;
+    for begun in 0..periods {
+        put_period(&mut bits, rate, code, places * begun)?;
+    }
+    put_rest(&mut bits, rate, code, places * periods)?;
+    Ok(bits)
+}
+
+// Appends the kept bits of the period of a code that begins at a place.
+fn put_period(
+    bits: &mut Vec<u8>,
+    rate: CodeRate,
+    code: &[u8],
+    place: usize,
+) -> Result<(), AllocError>
+    requires begins { place % (2 * period_of rate) ≡ 0 }
+    requires within { place + 2 * period_of rate ≤ length code.now }
+    ensures { bits.old.items ≡ map (slice_index code.now) (kept_places rate place)
+        → OnOk result
+        (bits.new.items
+        ≡ map (slice_index code.now) (kept_places rate (place + 2 * period_of rate))) }
+{
+    match rate {
+        CodeRate::Half => bits.extend_from_slice(&[code[place], code[place + 1]]),
+        CodeRate::TwoThirds => {
+            bits.extend_from_slice(&[code[place], code[place + 1], code[place + 2]])
+        }
+        CodeRate::ThreeQuarters => bits.extend_from_slice(&[
+            code[place],
+            code[place + 1],
+            code[place + 2],
+            code[place + 5],
+        ]),
+    }
+}
+
+// Appends the kept bits of a code from a place on.
+fn put_rest(bits: &mut Vec<u8>, rate: CodeRate, code: &[u8], place: usize) -> Result<(), AllocError>
+    requires { place ≤ length code.now }
+    ensures { bits.old.items ≡ map (slice_index code.now) (kept_places rate place)
+        → OnOk result (bits.new.items ≡ kept_list rate code.now) }
+{
+    for at in place..code.len() {
+        if kept(rate, at) {
+            bits.push(code[at])?;
         }
     }
-    Ok(bits)
+    Ok(())
 }
 
 // How many steps a period has.

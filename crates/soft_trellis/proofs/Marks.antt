@@ -3,7 +3,7 @@ use Rattle.std.proofs.Common.{◌≡◌, ℕ, zero, suc, ◌+◌, ◌*◌, ◌<�
 use Rattle.std.specs.Prelude.{if◌then◌else◌}
 use Rattle.std.specs.List.{range_with_len}
 use Rattle.std.proofs.lemmas.List.{get_or-map, length-map, map-append}
-use Rattle.std.proofs.lemmas.List.Elements.{All-append}
+use Rattle.std.proofs.lemmas.List.Elements.{All-append, All-nil}
 use Rattle.std.proofs.lemmas.List.FromFn.{map-range_with_len_more}
 use Rattle.puncture_map.specs.Kept.{is_kept, rank}
 use Rattle.rate_table.specs.declared.CodeRate.{CodeRate}
@@ -32,8 +32,12 @@ marks_cost_at_most_30 marks are = λ k d within.
     let is : IsMark pair.0 × IsMark pair.1 = are k (Absent, Absent) inside in
     rw (get_or-map costs_of marks k (Absent, Absent) d inside) (pair_at_most_30 pair.0 pair.1 is.0 is.1)
 
+-- no pairs
+pub stands_for_none : (trellis : MemoryView) → Holds 30 trellis [] → StandsFor trellis []
+stands_for_none trellis holds = record { are_marks = All-nil (λ (a, b). IsMark a × IsMark b); holds = holds }
+
 -- one pair more
-pub stands_pushed : (before after : MemoryView) (marks : List (Soft × Soft)) (a b : Soft) → IsMark a → IsMark b → StandsFor before marks → ((pairs : List PairCosts) → Holds before pairs → Holds after (pairs ++ costs_of (a, b) ∷ [])) → StandsFor after (marks ++ (a, b) ∷ [])
+pub stands_pushed : (before after : MemoryView) (marks : List (Soft × Soft)) (a b : Soft) → IsMark a → IsMark b → StandsFor before marks → ((pairs : List PairCosts) → Holds 30 before pairs → Holds 30 after (pairs ++ costs_of (a, b) ∷ [])) → StandsFor after (marks ++ (a, b) ∷ [])
 stands_pushed before after marks a b p q stands pushed = record {
   are_marks = All-append (λ (a, b). IsMark a × IsMark b) marks ((a, b) ∷ []) stands.are_marks one;
   holds = rw (map-append costs_of marks ((a, b) ∷ [])) (pushed (map costs_of marks) stands.holds);

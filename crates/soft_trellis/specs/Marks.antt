@@ -41,7 +41,8 @@ IsCheapest marks u least = IsNearest (map costs_of marks) u least
 abbrev pub AreMarks : List (Soft × Soft) → Type 0
 AreMarks marks = All (λ (a, b). IsMark a × IsMark b) marks
 
--- a trellis stands for pairs of marks: its survivors are those of their costs
+-- a trellis stands for pairs of marks: its survivors are those of their costs, of which none is
+-- above 30
 pub record StandsFor (trellis : MemoryView) (marks : List (Soft × Soft)) : Type 0 where
   pub are_marks : AreMarks marks
-  pub holds : Holds trellis (map costs_of marks)
+  pub holds : Holds 30 trellis (map costs_of marks)

@@ -7,13 +7,13 @@ ghost use Rattle.bit_lists.specs.Bits.{AreBits};
 ghost use Rattle.modem_ports.specs.Counts.{raised_by};
 ghost use Rattle.soft_trellis.specs.declared.Soft.{Soft};
 ghost use Rattle.soft_trellis.specs.Marks.{IsCheapest, IsMark, StandsFor, cost_at, costs_of};
-ghost use Rattle.survivor_memory.specs.Costs.{IsLight};
+ghost use Rattle.survivor_memory.specs.Costs.{IsLight, most_cost};
 ghost use Rattle.survivor_memory.specs.Survivors.{AreEntries, DifferByAtMost};
 
 use modem_ports::Steps;
 use std::alloc::{AllocError, Global};
 use std::marker::Model;
-use survivor_memory::{PairCosts, SurvivorMemory};
+use survivor_memory::{BranchCosts, PairCosts, SurvivorMemory};
 
 mod fields;
 pub mod laws;
@@ -22,6 +22,9 @@ mod values;
 
 pub use fields::{SoftField, decode_soft};
 pub use texts::{CostFault, read_costs};
+
+// The most that a pair of marks can cost.
+const MOST_COST: u8 = 30;
 
 /// How sure a bit is, or no mark where the place of the code is punctured (own).
 #[derive(Clone, Copy, Debug, PartialEq, Eq)]
@@ -100,7 +103,8 @@ impl SoftTrellis {
         ensures room { self.new.room ≡ self.old.room }
     {
         steps.tick();
-        self.memory.step(pair_costs(a, b));
+        self.memory
+            .step(&BranchCosts::of(pair_costs(a, b)), MOST_COST);
     }
 
     /// Writes the list that costs least against the pairs held, at least 6, one bit into each place of `out`, which has
@@ -141,6 +145,7 @@ fn pair_costs(a: Soft, b: Soft) -> PairCosts
     requires second { IsMark b }
     ensures costs { result ≡ costs_of (a, b) }
     ensures light { IsLight result }
+    ensures most { most_cost result ≤ 30 }
 {
     let (first_zero, first_one) = a.costs();
     let (second_zero, second_one) = b.costs();

@@ -1,14 +1,15 @@
 //! The marks of values: those of kept places, in order, and absent ones.
-ghost use Rattle.std.specs.Prelude.{◌≡◌, ℕ, ◌+◌, ◌*◌, ◌<◌, ◌≤◌, ◌^◌, List, ◌++◌, true, length};
+ghost use Rattle.std.specs.Prelude.{◌≡◌, ◌+◌, ◌<◌, ◌≤◌, ◌^◌, List, ◌++◌, true, length, slice_index, if◌then◌else◌};
 ghost use Rattle.modem_ports.specs.Counts.{raised_by};
-ghost use Rattle.puncture_map.specs.Kept.{is_kept, kept_count, rank};
+ghost use Rattle.puncture_map.specs.Kept.{kept_count};
 ghost use Rattle.soft_trellis.specs.declared.Soft.{Soft};
+ghost use Rattle.soft_trellis.specs.declared.Soft.TheVariants.{Absent, Cost};
 ghost use Rattle.soft_trellis.specs.Marks.{IsMark, StandsFor};
-ghost use Rattle.soft_trellis.specs.Values.{AreValues, mark_at, marks_at, marks_of};
+ghost use Rattle.soft_trellis.specs.Values.{AreValues, marks_of};
 
 use crate::{Soft, SoftTrellis};
 use modem_ports::Steps;
-use puncture_map::{kept, kept_before};
+use puncture_map::{kept_in_period, next_in_period};
 use rate_table::CodeRate;
 
 impl SoftTrellis {
@@ -25,39 +26,28 @@ impl SoftTrellis {
         ensures held { length self.new.rows ≡ length self.old.rows + count }
         ensures counted { steps.new ≡ raised_by count steps.old }
     {
-        for step in 0..count {
-            let (a, b) = pair(rate, values, step);
+        let mut phase = 0;
+        let mut next = 0;
+        for _step in 0..count {
+            let (a_is_kept, b_is_kept) = kept_in_period(rate, phase);
+            let a = mark(a_is_kept, values, next);
+            next += usize::from(a_is_kept);
+            let b = mark(b_is_kept, values, next);
+            next += usize::from(b_is_kept);
+            phase = next_in_period(rate, phase);
             self.step(a, b, steps);
         }
     }
 }
 
-// The marks of a step, for A and for B.
-fn pair(rate: CodeRate, values: &[u8], step: usize) -> (Soft, Soft)
-    requires few { step < 2 ^ 20 }
+// The mark of a place, which is that of the next value where the place is kept.
+fn mark(is_kept: bool, values: &[u8], next: usize) -> Soft
     requires are { AreValues values.now }
-    requires values { kept_count rate (step + 1) ≤ length values.now }
-    ensures marks { result ≡ marks_at rate values.now step }
-    ensures first { IsMark result.0 }
-    ensures second { IsMark result.1 }
-{
-    let first = kept_before(rate, step);
-    let second = first + usize::from(kept(rate, 2 * step));
-    (
-        mark(rate, values, 2 * step, first),
-        mark(rate, values, 2 * step + 1, second),
-    )
-}
-
-// The mark at a place that has so many kept places before it.
-fn mark(rate: CodeRate, values: &[u8], place: usize, next: usize) -> Soft
-    requires next { next ≡ rank rate place }
-    requires are { AreValues values.now }
-    requires values { is_kept rate place ≡ true → next < length values.now }
-    ensures mark { result ≡ mark_at rate values.now place }
+    requires next { is_kept ≡ true → next < length values.now }
+    ensures mark { result ≡ (if is_kept then Cost (slice_index values.now next) else Absent) }
     ensures is_mark { IsMark result }
 {
-    if kept(rate, place) {
+    if is_kept {
         Soft::Cost(values[next])
     } else {
         Soft::Absent

@@ -4,7 +4,7 @@ use Rattle.std.proofs.lemmas.Bool.{cases_eq}
 use Rattle.std.proofs.lemmas.List.{nil_from_length}
 use Rattle.std.proofs.lemmas.List.Elements.{All-nil, All-cons, All-replicate}
 use Rattle.std.proofs.lemmas.Simd.{get_or-replicate}
-use Rattle.survivor_memory.specs.Costs.{IsLight}
+use Rattle.survivor_memory.specs.Costs.{most_cost}
 use Rattle.survivor_memory.specs.Survivors.{AreEntries, MemoryView, Holds, LeadsTo, followed}
 use Rattle.survivor_memory.proofs.Leading.{leads-nil, state_before-zero}
 use Rattle.survivor_memory.proofs.Merge.{IsSurvivor}
@@ -28,18 +28,18 @@ followed_survives rows = nil_survives
 pub leads_at_start : (s : ℕ) (u : List ℕ) → LeadsTo 0 s u → s ≡ 0
 leads_at_start s u leads = sym leads.ends ∙ state_before-zero u
 
-pub holds_none : (memory : MemoryView) → memory.entries ≡ 0 ∷ replicate 63 255 → memory.base ≡ 0 → memory.rows ≡ [] → Holds memory []
-holds_none memory entries base rows =
+pub holds_none : (most : ℕ) (memory : MemoryView) → memory.entries ≡ 0 ∷ replicate 63 255 → memory.base ≡ 0 → memory.rows ≡ [] → Holds most memory []
+holds_none most memory entries base rows =
     let first : get_or memory.entries 0 0 ≡ 0 = ap (λ xs. get_or {A = ℕ} xs 0 0) entries in
     record {
       held = rw rows;
-      light = All-nil IsLight;
+      light = All-nil (λ pair. most_cost pair ≤ most);
       survivors = λ s u leads. rw (leads_at_start s u leads, first, base) (followed_survives memory.rows);
       no_list = λ s below none. elim (cases_eq s 0) [
         | inl e ↦ absurd (none [] (rw e leads-nil))
         | inr other ↦ rw entries (full_behind s below other)
       ];
-      least_is_zero = (0, omega arith, first);
+      low = (0, omega arith, omega arith);
     }
   where
     full_behind : (s : ℕ) → s < 64 → (s ≡ 0 → ⊥) → get_or {A = ℕ} (0 ∷ replicate 63 255) s 0 ≡ 255

@@ -1,11 +1,11 @@
 -- A memory one pair on.
-use Rattle.std.proofs.Common.{◌≡◌, ℕ, zero, suc, ◌+◌, ◌-◌, ◌*◌, ◌/◌, ◌%◌, ◌<◌, ◌≤◌, List, [], ◌∷◌, ◌++◌, length, get_or, replicate, min, refl, ap, add-one, ◌∙◌, inl, inr, arith}
+use Rattle.std.proofs.Common.{◌≡◌, ℕ, zero, suc, ◌+◌, ◌-◌, ◌*◌, ◌/◌, ◌%◌, ◌<◌, ◌≤◌, List, [], ◌∷◌, ◌++◌, length, get_or, replicate, min, refl, ap, add-one, ◌∙◌, ◌⊎◌, inl, inr, arith}
 use Rattle.std.specs.Int.{bit_at}
 use Rattle.std.proofs.lemmas.Bool.{cases_lt}
 use Rattle.std.proofs.lemmas.List.{length_push, replicate_more}
 use Rattle.std.proofs.lemmas.List.Elements.{All-push}
 use Rattle.survivor_memory.specs.declared.PairCosts.{PairCosts}
-use Rattle.survivor_memory.specs.Costs.{IsLight}
+use Rattle.survivor_memory.specs.Costs.{most_cost}
 use Rattle.survivor_memory.specs.Survivors.{MemoryView, Holds, LeadsTo, followed}
 use Rattle.survivor_memory.proofs.Holding.{entry_le, followed_push}
 use Rattle.survivor_memory.proofs.Leading.{branch_cost, branch_cost_le, leads-nil, leads_push, leads_lt, cut, came_from, goes_to_low, goes_to_high}
@@ -13,8 +13,8 @@ use Rattle.survivor_memory.proofs.Merge.{IsSurvivor, low_goes_on, high_goes_on}
 use Rattle.survivor_memory.proofs.Reached.{IsUnreached, is_reached}
 
 -- what a step does to a memory: the sums through the lower and the higher predecessor of each state, held at 255; a back bit
--- where the higher one is less; and the lesser sums, from which the least is taken off
-pub record Stepped (pair : PairCosts) (old new : MemoryView) : Type 0 where
+
+pub record Stepped (most : ℕ) (pair : PairCosts) (old new : MemoryView) : Type 0 where
   pub low : List ℕ
   pub high : List ℕ
   pub row : ℕ
@@ -24,7 +24,7 @@ pub record Stepped (pair : PairCosts) (old new : MemoryView) : Type 0 where
   pub low_wins : (s : ℕ) → s < 64 → get_or low s 0 ≤ get_or high s 0 → bit_at row s ≡ 0
   pub high_wins : (s : ℕ) → s < 64 → get_or high s 0 < get_or low s 0 → bit_at row s ≡ 1
   pub least_le : (s : ℕ) → s < 64 → least ≤ min (get_or low s 0) (get_or high s 0)
-  pub least_at : (s : ℕ) × (s < 64) × (min (get_or low s 0) (get_or high s 0) ≡ least)
+  pub low_at : (min (get_or low 0 0) (get_or high 0 0) ≤ 254 - 7 * most) ⊎ ((s : ℕ) × (s < 64) × (min (get_or low s 0) (get_or high s 0) ≡ least))
   pub lowered : (s : ℕ) → s < 64 → min (get_or low s 0) (get_or high s 0) < 255 → get_or new.entries s 0 ≡ min (get_or low s 0) (get_or high s 0) - least
   pub kept : (s : ℕ) → s < 64 → min (get_or low s 0) (get_or high s 0) ≡ 255 → get_or new.entries s 0 ≡ 255
   pub rows : new.rows ≡ old.rows ++ row ∷ []
@@ -37,20 +37,20 @@ leads_by_zeros (suc n) =
     let next : LeadsTo (n + 1) 0 (replicate (n + 1) 0) = rw (replicate_more {X = ℕ} n 0) at (leads_push n 0 0 (replicate n 0) (leads_by_zeros n) (omega arith)) in
     rw (add-one n) at next
 
-module _ (pair : PairCosts) (old new : MemoryView) (pairs : List PairCosts)
-    (step : Stepped pair old new) (light : IsLight pair) (holds : Holds old pairs)
+module _ (most : ℕ) (pair : PairCosts) (old new : MemoryView) (pairs : List PairCosts)
+    (step : Stepped most pair old new) (few : 7 * most < 255) (light : most_cost pair ≤ most) (holds : Holds most old pairs)
   where
     -- the sum through a predecessor that a list leads to is exact
-    low_exact : (s : ℕ) (v : List ℕ) → s < 64 → LeadsTo (length pairs) (s / 2) v → (get_or step.low s 0 ≡ get_or old.entries (s / 2) 0 + branch_cost pair (s / 2) (s % 2)) × (get_or step.low s 0 ≤ 252)
+    low_exact : (s : ℕ) (v : List ℕ) → s < 64 → LeadsTo (length pairs) (s / 2) v → (get_or step.low s 0 ≡ get_or old.entries (s / 2) 0 + branch_cost pair (s / 2) (s % 2)) × (get_or step.low s 0 ≤ 254)
     low_exact s v h leads =
-        let entry = entry_le old pairs holds (s / 2) v (omega arith) leads in
+        let entry = entry_le most old pairs few holds (s / 2) v (omega arith) leads in
         let branch = branch_cost_le pair (s / 2) (s % 2) in
         let sum = step.low_is s h in
         (omega arith, omega arith)
 
-    high_exact : (s : ℕ) (v : List ℕ) → s < 64 → LeadsTo (length pairs) (s / 2 + 32) v → (get_or step.high s 0 ≡ get_or old.entries (s / 2 + 32) 0 + branch_cost pair (s / 2 + 32) (s % 2)) × (get_or step.high s 0 ≤ 252)
+    high_exact : (s : ℕ) (v : List ℕ) → s < 64 → LeadsTo (length pairs) (s / 2 + 32) v → (get_or step.high s 0 ≡ get_or old.entries (s / 2 + 32) 0 + branch_cost pair (s / 2 + 32) (s % 2)) × (get_or step.high s 0 ≤ 254)
     high_exact s v h leads =
-        let entry = entry_le old pairs holds (s / 2 + 32) v (omega arith) leads in
+        let entry = entry_le most old pairs few holds (s / 2 + 32) v (omega arith) leads in
         let branch = branch_cost_le pair (s / 2 + 32) (s % 2) in
         let sum = step.high_is s h in
         (omega arith, omega arith)
@@ -126,20 +126,24 @@ module _ (pair : PairCosts) (old new : MemoryView) (pairs : List PairCosts)
         let high : IsUnreached (length pairs) (s / 2 + 32) = λ v leads. none (v ++ s % 2 ∷ []) (rw (goes_to_high s h) at (leads_push (length pairs) (s / 2 + 32) (s % 2) v leads (omega arith))) in
         step.kept s h (omega (arith, low_full s h low, high_full s h high))
 
-    -- some entry is 0
-    some_zero : (s : ℕ) × (s < 64) × (get_or new.entries s 0 ≡ 0)
-    some_zero =
-        let (s, h, least) = step.least_at in
+    -- some entry is low
+    some_low : (s : ℕ) × (s < 64) × (get_or new.entries s 0 ≤ 254 - 7 * most)
+    some_low =
         let start = low_exact 0 (replicate (length pairs) 0) (omega arith) (leads_by_zeros (length pairs)) in
-        (s, h, omega (arith, step.lowered s h (omega (arith, least, step.least_le 0 (omega arith), start)), least))
+        elim step.low_at [
+          | inl first ↦ (0, omega arith, omega (arith, step.lowered 0 (omega arith) (omega arith), first))
+          | inr found ↦
+              let (s, h, least) = found in
+              (s, h, omega (arith, step.lowered s h (omega (arith, least, step.least_le 0 (omega arith), start)), least))
+        ]
 
-    pub holds_push : Holds new (pairs ++ pair ∷ [])
+    pub holds_push : Holds most new (pairs ++ pair ∷ [])
     holds_push =
         let more : length (pairs ++ pair ∷ []) ≡ length pairs + 1 = length_push pairs pair in
         record {
           held = rw (step.rows, more) (length_push old.rows step.row ∙ ap (λ n. n + 1) holds.held);
-          light = All-push IsLight pairs pair holds.light light;
+          light = All-push (λ pair. most_cost pair ≤ most) pairs pair holds.light light;
           survivors = rw more survives;
           no_list = rw more stays_full;
-          least_is_zero = some_zero;
+          low = some_low;
         }

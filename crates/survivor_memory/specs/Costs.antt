@@ -1,9 +1,11 @@
 -- What a list of bits costs against pairs of marks (own), by the code of IEEE Std 802.11-2012,
 -- 18.3.5.6. A pair of marks is given by what its marks for A and B cost, each at the bit 0 and at
 -- the bit 1.
-use Rattle.std.specs.Prelude.{ℕ, ◌+◌, ◌*◌, ◌<◌, ◌≤◌, ◌==◌, List, All, max, if◌then◌else◌}
+use Rattle.std.specs.Prelude.{ℕ, ◌+◌, ◌*◌, ◌/◌, ◌%◌, ◌<◌, ◌≤◌, ◌==◌, ◌≡◌, List, All, max, slice_index, if◌then◌else◌}
 use Rattle.std.specs.List.{enumerate_from, sum_by}
 use Rattle.conv_code.specs.Code.{parity_a, parity_b}
+use Rattle.conv_code.specs.States.{branch_a, branch_b}
+use Rattle.survivor_memory.specs.declared.BranchCosts.{BranchCosts}
 use Rattle.survivor_memory.specs.declared.PairCosts.{PairCosts}
 
 -- what a pair costs where the code has the bits a and b
@@ -30,3 +32,11 @@ IsLight pair = 7 * most_cost pair < 255
 -- no pair of a list can cost more than so much
 abbrev pub CostAtMost : ℕ → List PairCosts → Type 0
 CostAtMost most pairs = All (λ pair. most_cost pair ≤ most) pairs
+
+-- what a pair costs on the branches into each state, from its lower and from its higher predecessor:
+-- the price of the code's bits there
+pub record AreBranchCosts (pair : PairCosts) (branches : BranchCosts) : Type 0 where
+  pub lower : (s : ℕ) → s < 64 → slice_index branches.lower s
+      ≡ price pair (branch_a (s / 2) (s % 2)) (branch_b (s / 2) (s % 2))
+  pub higher : (s : ℕ) → s < 64 → slice_index branches.higher s
+      ≡ price pair (branch_a (s / 2 + 32) (s % 2)) (branch_b (s / 2 + 32) (s % 2))

@@ -1,11 +1,11 @@
 -- What a survivor memory stands for (own). States are those of the code: bit j, 0 to 5, is the
 -- input j + 1 steps ago.
-use Rattle.std.specs.Prelude.{ℕ, zero, suc, ◌+◌, ◌*◌, ◌/◌, ◌%◌, ◌<◌, ◌≤◌, ◌≡◌, List, [], ◌∷◌, ◌++◌, All, length, slice_index}
+use Rattle.std.specs.Prelude.{ℕ, zero, suc, ◌+◌, ◌-◌, ◌*◌, ◌/◌, ◌%◌, ◌<◌, ◌≤◌, ◌≡◌, List, [], ◌∷◌, ◌++◌, All, length, slice_index}
 use Rattle.std.specs.Int.{bit_at}
 use Rattle.bit_lists.specs.Bits.{AreBits}
 use Rattle.conv_code.specs.States.{state_before}
 use Rattle.survivor_memory.specs.declared.PairCosts.{PairCosts}
-use Rattle.survivor_memory.specs.Costs.{IsLight, cost}
+use Rattle.survivor_memory.specs.Costs.{CostAtMost, cost}
 use Rattle.survivor_memory.specs.Nearest.{IsFirstOfLeast}
 
 -- what a memory shows: an entry for each state, the base of all entries, the back bits of each pair
@@ -30,10 +30,10 @@ pub record LeadsTo (count state : ℕ) (u : List ℕ) : Type 0 where
   pub bits : AreBits u
   pub ends : state_before u count ≡ state
 
--- a memory stands for a list of pairs
-pub record Holds (memory : MemoryView) (pairs : List PairCosts) : Type 0 where
+-- a memory stands for a list of pairs, of which none costs more than so much
+pub record Holds (most : ℕ) (memory : MemoryView) (pairs : List PairCosts) : Type 0 where
   pub held : length memory.rows ≡ length pairs
-  pub light : All IsLight pairs
+  pub light : CostAtMost most pairs
   -- a state that some list leads to: its entry and the base are the least cost of those lists, and
   -- its back bits give the first of those of that cost
   pub survivors : (state : ℕ) (u : List ℕ) → LeadsTo (length pairs) state u
@@ -43,8 +43,8 @@ pub record Holds (memory : MemoryView) (pairs : List PairCosts) : Type 0 where
   -- any other state
   pub no_list : (state : ℕ) → state < 64 → ((u : List ℕ) → ¬ LeadsTo (length pairs) state u)
       → slice_index memory.entries state ≡ 255
-  -- the least entry is 0
-  pub least_is_zero : (state : ℕ) × (state < 64) × (slice_index memory.entries state ≡ 0)
+  -- seven pairs more could not bring the least entry to 255
+  pub low : (state : ℕ) × (state < 64) × (slice_index memory.entries state ≤ 254 - 7 * most)
 
 -- every entry is at most 255
 abbrev pub AreEntries : List ℕ → Type 0

@@ -1,8 +1,9 @@
 //! A step over the 64 states, as lanes. State s has the predecessors s / 2, the lower, and s / 2 + 32, the higher.
-ghost use Rattle.std.specs.Prelude.{◌≡◌, ◌==◌, ℕ, ◌+◌, ◌-◌, ◌*◌, ◌/◌, ◌%◌, ◌<◌, ◌≤◌, min, slice_index, if◌then◌else◌};
+ghost use Rattle.std.specs.Prelude.{◌≡◌, ◌≢◌, ◌==◌, ℕ, ◌+◌, ◌-◌, ◌*◌, ◌/◌, ◌%◌, ◌<◌, ◌≤◌, ◌⊎◌, min, slice_index, if◌then◌else◌};
 ghost use Rattle.std.specs.Int.{bit_at};
 ghost use Rattle.conv_code.specs.States.{branch_a, branch_b};
 ghost use Rattle.survivor_memory.specs.Costs.{price, IsLight};
+ghost use Rattle.survivor_memory.specs.Survivors.{AreEntries};
 
 use crate::PairCosts;
 use std::simd::prelude::*;
@@ -83,14 +84,14 @@ pub fn sums(entries: u8x64, costs: u8x64) -> u8x64
     entries.saturating_add(costs)
 }
 
-/// A number with a bit for each lane, which is set where the second is less.
-pub fn second_less(first: u8x64, second: u8x64) -> u64
-    ensures set { (s : ℕ) → s < 64 → slice_index second s < slice_index first s
+/// A number with a bit for each lane, which is set where two differ.
+pub fn differing(first: u8x64, second: u8x64) -> u64
+    ensures set { (s : ℕ) → s < 64 → slice_index first s ≢ slice_index second s
         → bit_at result s ≡ 1 }
-    ensures clear { (s : ℕ) → s < 64 → slice_index first s ≤ slice_index second s
+    ensures clear { (s : ℕ) → s < 64 → slice_index first s ≡ slice_index second s
         → bit_at result s ≡ 0 }
 {
-    second.simd_lt(first).to_bitmask()
+    !first.simd_eq(second).to_bitmask()
 }
 
 /// Lane by lane, the lesser of two.
@@ -101,8 +102,27 @@ pub fn lesser(first: u8x64, second: u8x64) -> u8x64
     first.simd_min(second)
 }
 
-/// The least of the entries.
-pub fn least_of(entries: &[u8; 64]) -> u8
+/// Takes the least of the entries off all of them but 255, where the first is above a limit. Answers how much that is.
+pub fn lower_above(entries: &mut [u8; 64], limit: u8) -> u8
+    ensures within { (s : ℕ) → s < 64 → result ≤ slice_index entries.old s }
+    ensures lowered { (s : ℕ) → s < 64 → slice_index entries.old s < 255
+        → slice_index entries.new s ≡ slice_index entries.old s - result }
+    ensures kept { (s : ℕ) → s < 64 → slice_index entries.old s ≡ 255
+        → slice_index entries.new s ≡ 255 }
+    ensures entries { AreEntries entries.new }
+    ensures low { (slice_index entries.old 0 ≤ limit)
+        ⊎ ((s : ℕ) × (s < 64) × (slice_index entries.old s ≡ result)) }
+{
+    if entries[0] <= limit {
+        return 0;
+    }
+    let least = least_of(entries);
+    *entries = lowered(u8x64::from_array(*entries), least).to_array();
+    least
+}
+
+// The least of the entries.
+fn least_of(entries: &[u8; 64]) -> u8
     ensures least { (s : ℕ) → s < 64 → result ≤ slice_index entries.now s }
     ensures found { (s : ℕ) × (s < 64) × (slice_index entries.now s ≡ result) }
 {
@@ -113,8 +133,8 @@ pub fn least_of(entries: &[u8; 64]) -> u8
     least
 }
 
-/// Lane by lane, a number less, but for 255, which stays.
-pub fn lowered(entries: u8x64, by: u8) -> u8x64
+// Lane by lane, a number less, but for 255, which stays.
+fn lowered(entries: u8x64, by: u8) -> u8x64
     requires { (s : ℕ) → s < 64 → by ≤ slice_index entries s }
     ensures lowered { (s : ℕ) → s < 64 → slice_index entries s < 255
         → slice_index result s ≡ slice_index entries s - by }

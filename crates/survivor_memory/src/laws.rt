@@ -20,7 +20,7 @@ pub fn some_nearest()
 
 /// Once six pairs are held, the entries of any two states differ by at most what six pairs can cost (own).
 pub fn entries_differ()
-    ensures { (memory : MemoryView) (pairs : List PairCosts) (most : ℕ) → Holds memory pairs
-        → CostAtMost most pairs
-        → 6 ≤ length pairs → DifferByAtMost (6 * most) memory.entries }
+    ensures { (most : ℕ) (memory : MemoryView) (pairs : List PairCosts) (bound : ℕ)
+        → Holds most memory pairs → CostAtMost bound pairs
+        → 6 ≤ length pairs → DifferByAtMost (6 * bound) memory.entries }
 {}

@@ -5,7 +5,7 @@
 ghost use Rattle.std.specs.Prelude.{◌≡◌, ℕ, ◌+◌, ◌*◌, ◌<◌, ◌≤◌, ◌^◌, List, [], ◌∷◌, ◌++◌, length, replicate, IfOk};
 ghost use Rattle.bit_lists.specs.Bits.{AreBits};
 ghost use Rattle.survivor_memory.specs.declared.PairCosts.{PairCosts};
-ghost use Rattle.survivor_memory.specs.Costs.{CostAtMost, IsLight};
+ghost use Rattle.survivor_memory.specs.Costs.{AreBranchCosts, CostAtMost, IsLight, most_cost};
 ghost use Rattle.survivor_memory.specs.Nearest.{IsNearest};
 ghost use Rattle.survivor_memory.specs.Survivors.{AreEntries, DifferByAtMost, Holds, followed};
 
@@ -25,10 +25,32 @@ pub struct PairCosts {
     pub second_one: u8,
 }
 
+/// What a pair of marks costs on the two branches into each state s (own): from its lower predecessor, s / 2, and from its
+/// higher, s / 2 + 32.
+#[derive(Clone, Copy, Debug)]
+pub struct BranchCosts {
+    pub lower: [u8; 64],
+    pub higher: [u8; 64],
+}
+
+impl BranchCosts {
+    /// The branches of a pair of which seven cost less than 255. Takes no memory.
+    pub fn of(costs: PairCosts) -> BranchCosts
+        requires { IsLight costs }
+        ensures { AreBranchCosts costs result }
+    {
+        BranchCosts {
+            lower: lanes::branches_from_lower(costs).to_array(),
+            higher: lanes::branches_from_higher(costs).to_array(),
+        }
+    }
+}
+
 /// The survivors of the 64 states, over the pairs of marks that it holds (own).
 ///
 /// The entry of a state and the base are the least cost of the lists that lead to it; the entry 255 stands for a state
-/// that no list leads to. A pair that is held has a row of back bits, one for each state. Only `open` takes memory.
+/// that no list leads to. What all entries have in common moves into the base before a sum could reach 255. A pair that is
+/// held has a row of back bits, one for each state. Only `open` takes memory.
 #[derive(Debug, Drop)]
 pub struct SurvivorMemory {
     entries: [u8; 64],
@@ -57,7 +79,8 @@ impl SurvivorMemory {
     /// A memory that holds no pairs, with room for so many, at most 2^20. The only error is want of memory.
     pub fn open(alloc: Global, room: usize) -> Result<SurvivorMemory, AllocError>
         requires { room ≤ 2 ^ 20 }
-        ensures holds { IfOk result (λ memory. Holds memory []) }
+        ensures holds { (most : ℕ) → IfOk result (λ memory. Holds most memory []) }
+        ensures empty { IfOk result (λ memory. length memory.rows ≡ 0) }
         ensures entries { IfOk result (λ memory. AreEntries memory.entries) }
         ensures room { IfOk result (λ memory. memory.room ≡ room) }
     {
@@ -71,7 +94,8 @@ impl SurvivorMemory {
 
     /// Empties it. Takes no memory.
     pub fn start(&mut self)
-        ensures holds { Holds self.new [] }
+        ensures holds { (most : ℕ) → Holds most self.new [] }
+        ensures empty { length self.new.rows ≡ 0 }
         ensures entries { AreEntries self.new.entries }
         ensures room { self.new.room ≡ self.old.room }
     {
@@ -80,28 +104,30 @@ impl SurvivorMemory {
         self.held = 0;
     }
 
-    /// Appends one pair, of which seven cost less than 255. There is room for it. Takes no memory.
-    pub fn step(&mut self, costs: PairCosts)
+    /// Appends one pair, by what its branches cost. No pair held costs more than `most`, of which seven are less than 255.
+    /// There is room for it. Takes no memory.
+    pub fn step(&mut self, branches: &BranchCosts, most: u8)
         requires room { length self.old.rows < self.old.room }
-        requires light { IsLight costs }
-        ensures appended { (pairs : List PairCosts) → Holds self.old pairs
-            → Holds self.new (pairs ++ costs ∷ []) }
+        requires light { 7 * most < 255 }
+        ensures appended { (pairs : List PairCosts) (costs : PairCosts)
+            → AreBranchCosts costs branches.now → most_cost costs ≤ most → Holds most self.old pairs
+            → Holds most self.new (pairs ++ costs ∷ []) }
         ensures held { length self.new.rows ≡ length self.old.rows + 1 }
         ensures entries { AreEntries self.new.entries }
-        ensures differ { (pairs : List PairCosts) (most : ℕ) → Holds self.new pairs
-            → CostAtMost most pairs
-            → 6 ≤ length pairs → DifferByAtMost (6 * most) self.new.entries }
+        ensures differ { (pairs : List PairCosts) (bound : ℕ) → Holds most self.new pairs
+            → CostAtMost bound pairs
+            → 6 ≤ length pairs → DifferByAtMost (6 * bound) self.new.entries }
         ensures room { self.new.room ≡ self.old.room }
     {
         let (lower, higher) = lanes::predecessors(u8x64::from_array(self.entries));
-        let lower = lanes::sums(lower, lanes::branches_from_lower(costs));
-        let higher = lanes::sums(higher, lanes::branches_from_higher(costs));
+        let lower = lanes::sums(lower, u8x64::from_array(branches.lower));
+        let higher = lanes::sums(higher, u8x64::from_array(branches.higher));
         let best = lanes::lesser(lower, higher);
-        let least = lanes::least_of(&best.to_array());
-        self.entries = lanes::lowered(best, least).to_array();
-        self.base += u32::from(least);
-        self.rows[self.held] = lanes::second_less(lower, higher);
+        self.entries = best.to_array();
+        self.rows[self.held] = lanes::differing(lower, best);
         self.held += 1;
+        let common = lanes::lower_above(&mut self.entries, 254 - 7 * most);
+        self.base += u32::from(common);
     }
 
     /// Writes the nearest list for the pairs held, at least 6, one bit into each place of `out`, which has one for each
@@ -109,12 +135,13 @@ impl SurvivorMemory {
     pub fn finish(&mut self, out: &mut [u8]) -> u32
         requires enough { 6 ≤ length self.old.rows }
         requires places { length out.old ≡ length self.old.rows }
-        ensures nearest { (pairs : List PairCosts) → Holds self.old pairs
+        ensures nearest { (pairs : List PairCosts) (most : ℕ) → Holds most self.old pairs
             → IsNearest pairs out.new result }
 
         // whatever it stood for
         ensures bits { AreBits out.new }
-        ensures holds { Holds self.new [] }
+        ensures holds { (most : ℕ) → Holds most self.new [] }
+        ensures empty { length self.new.rows ≡ 0 }
         ensures entries { AreEntries self.new.entries }
         ensures room { self.new.room ≡ self.old.room }
     {
@@ -154,11 +181,11 @@ fn follow(rows: &[u64], out: &mut [u8])
     ensures written { out.new ≡ followed rows.now (length rows.now) 0 }
     ensures bits { AreBits out.new }
 {
-    let mut state = 0u8;
+    let mut state = 0u64;
     for place in (0..rows.len()).rev() {
-        out[place] = state % 2;
+        out[place] = (state % 2) as u8;
         let back = (rows[place] >> state) % 2;
-        state = state / 2 + 32 * back as u8;
+        state = state / 2 + 32 * back;
     }
 }
 

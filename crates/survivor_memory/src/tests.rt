@@ -1,8 +1,7 @@
-ghost use Rattle.std.specs.Prelude.{◌≡◌, ◌≤◌, [], length};
+ghost use Rattle.std.specs.Prelude.{◌≡◌, ◌≤◌, length};
 ghost use Rattle.survivor_memory.specs.Costs.{IsLight};
-ghost use Rattle.survivor_memory.specs.Survivors.{Holds};
 
-use crate::{PairCosts, SurvivorMemory};
+use crate::{BranchCosts, PairCosts, SurvivorMemory};
 use std::test::Fail;
 
 // What a pair costs whose marks are two numbers from 0 to 15: the number at the bit 0, and the rest to 15 at the bit 1.
@@ -21,15 +20,15 @@ fn costs_of(first: u8, second: u8) -> PairCosts
 
 // The nearest list to pairs of such marks, and its cost.
 fn nearest(memory: &mut SurvivorMemory, pairs: &[(u8, u8)], out: &mut [u8]) -> u32
-    requires empty { Holds memory.old [] }
+    requires empty { length memory.old.rows ≡ 0 }
     requires enough { 6 ≤ length pairs.now }
     requires room { length pairs.now ≤ memory.old.room }
     requires places { length out.old ≡ length pairs.now }
-    ensures empty { Holds memory.new [] }
+    ensures empty { length memory.new.rows ≡ 0 }
     ensures room { memory.new.room ≡ memory.old.room }
 {
     for (first, second) in pairs {
-        memory.step(costs_of(*first, *second));
+        memory.step(&BranchCosts::of(costs_of(*first, *second)), 30);
     }
     memory.finish(out)
 }
@@ -115,10 +114,10 @@ fn pairs_without_a_cost(rt: HostRuntime) -> Result<(), Fail> {
         second_one: 0,
     };
     let mut memory = SurvivorMemory::open(rt.alloc(), 6)?;
-    memory.step(costs_of(15, 15));
+    memory.step(&BranchCosts::of(costs_of(15, 15)), 30);
     memory.start();
     for costs in [free; 6] {
-        memory.step(costs);
+        memory.step(&BranchCosts::of(costs), 30);
     }
     let mut out = [1; 6];
     assert_eq!(rt; memory.finish(&mut out), 0);

@@ -46,6 +46,9 @@ distance_is_cost marks u long = rw (cost_is, long) (differences_from_is_cost u 0
 mark_cost_le : (mark : Mark) (bit : ℕ) → cost_at mark bit ≤ 1
 mark_cost_le mark bit = elim (differs mark bit) as (λ v. (if v then 1 else 0) ≤ 1) [ true ↦ omega arith | false ↦ omega arith ]
 
+pub pair_costs_at_most_2 : (a b : Mark) → most_cost (costs_of (a, b)) ≤ 2
+pair_costs_at_most_2 a b = omega (arith, mark_cost_le)
+
 pub marks_cost_at_most_2 : (marks : List (Mark × Mark)) → CostAtMost 2 (map costs_of marks)
 marks_cost_at_most_2 marks =
     All-map (λ pair. most_cost pair ≤ 2) costs_of marks

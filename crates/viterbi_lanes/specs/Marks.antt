@@ -40,6 +40,13 @@ costs_of (a, b) = record {
   second_one = cost_at b 1;
 }
 
--- a trellis stands for pairs of marks: its survivors are those of their costs
+-- a trellis stands for pairs of marks: its survivors are those of their costs, of which none is
+-- above 2
 abbrev pub StandsFor : MemoryView → List (Mark × Mark) → Type 0
-StandsFor trellis marks = Holds trellis (map costs_of marks)
+StandsFor trellis marks = Holds 2 trellis (map costs_of marks)
+
+-- where a mark stands in the table of what pairs of marks cost
+abbrev pub row_of : Mark → ℕ
+row_of Zero = 0
+row_of One = 1
+row_of Absent = 2

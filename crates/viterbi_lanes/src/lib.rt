@@ -9,15 +9,20 @@ ghost use Rattle.rate_table.specs.declared.CodeRate.{CodeRate};
 ghost use Rattle.survivor_memory.specs.Survivors.{AreEntries, DifferByAtMost};
 ghost use Rattle.viterbi_lanes.specs.declared.Mark.{Mark};
 ghost use Rattle.viterbi_lanes.specs.Decisions.{AreNearlyKeptCode, changes, marks_of};
-ghost use Rattle.viterbi_lanes.specs.Marks.{IsNearestTo, StandsFor, cost_at, costs_of};
+ghost use Rattle.viterbi_lanes.specs.Marks.{IsNearestTo, StandsFor};
 
+use branches::branch_costs;
 use modem_ports::Steps;
 use std::alloc::{AllocError, Global};
 use std::marker::Model;
-use survivor_memory::{PairCosts, SurvivorMemory};
+use survivor_memory::SurvivorMemory;
 
+mod branches;
 pub mod laws;
 mod marks;
+
+// The most that a pair of marks can cost.
+const MOST_COST: u8 = 2;
 
 /// One decision, or none where the place of the code is punctured (own).
 #[derive(Clone, Copy, Debug, PartialEq, Eq)]
@@ -25,20 +30,6 @@ pub enum Mark {
     Zero,
     One,
     Absent,
-}
-
-impl Mark {
-    // What the mark costs at the bits 0 and 1.
-    fn costs(self) -> (u8, u8)
-        ensures zero { result.0 ≡ cost_at self 0 }
-        ensures one { result.1 ≡ cost_at self 1 }
-    {
-        match self {
-            Mark::Zero => (0, 1),
-            Mark::One => (1, 0),
-            Mark::Absent => (0, 0),
-        }
-    }
 }
 
 /// The trellis of the code over the pairs of marks that it holds (own). Its entries are bytes, worked on as one vector.
@@ -92,7 +83,7 @@ impl Trellis {
         ensures room { self.new.room ≡ self.old.room }
     {
         steps.tick();
-        self.memory.step(pair_costs(a, b));
+        self.memory.step(branch_costs(a, b), MOST_COST);
     }
 
     /// Writes the nearest list for the pairs held, at least 6, one bit into each place of `out`, which has one for each
@@ -130,20 +121,6 @@ impl Trellis {
         ensures { result ≡ self.now.room }
     {
         self.memory.room()
-    }
-}
-
-// What a pair of marks costs.
-fn pair_costs(a: Mark, b: Mark) -> PairCosts
-    ensures { result ≡ costs_of (a, b) }
-{
-    let (first_zero, first_one) = a.costs();
-    let (second_zero, second_one) = b.costs();
-    PairCosts {
-        first_zero,
-        first_one,
-        second_zero,
-        second_one,
     }
 }
 

@@ -1,17 +1,18 @@
 //! The marks of decisions: those of kept places, in order, and absent ones.
-ghost use Rattle.std.specs.Prelude.{◌≡◌, ℕ, ◌+◌, ◌-◌, ◌*◌, ◌<◌, ◌≤◌, ◌^◌, List, ◌++◌, true, length};
+ghost use Rattle.std.specs.Prelude.{◌≡◌, ◌==◌, ℕ, ◌+◌, ◌-◌, ◌*◌, ◌<◌, ◌≤◌, ◌^◌, List, ◌++◌, true, length, slice_index, if◌then◌else◌};
 ghost use Rattle.modem_ports.specs.Counts.{raised_by};
-ghost use Rattle.puncture_map.specs.Kept.{is_kept, kept_count, rank};
+ghost use Rattle.puncture_map.specs.Kept.{kept_count};
 ghost use Rattle.rate_table.specs.Symbols.{IsLength, bits_through_tail, symbol_count};
 ghost use Rattle.rate_table.specs.Table.{row_of};
 ghost use Rattle.survivor_memory.specs.Survivors.{AreEntries};
 ghost use Rattle.viterbi_lanes.specs.declared.Mark.{Mark};
-ghost use Rattle.viterbi_lanes.specs.Decisions.{carried_steps, mark_at, marks_at, marks_of};
+ghost use Rattle.viterbi_lanes.specs.declared.Mark.TheVariants.{Zero, One, Absent};
+ghost use Rattle.viterbi_lanes.specs.Decisions.{carried_steps, marks_of};
 ghost use Rattle.viterbi_lanes.specs.Marks.{StandsFor};
 
 use crate::{Mark, Trellis};
 use modem_ports::Steps;
-use puncture_map::{kept, kept_before};
+use puncture_map::{kept_in_period, next_in_period};
 use rate_table::{CodeRate, Rate};
 
 impl Trellis {
@@ -30,8 +31,15 @@ impl Trellis {
         ensures room { self.new.room ≡ self.old.room }
         ensures counted { steps.new ≡ raised_by count steps.old }
     {
-        for step in 0..count {
-            let (a, b) = pair(rate, decisions, step);
+        let mut phase = 0;
+        let mut next = 0;
+        for _step in 0..count {
+            let (a_is_kept, b_is_kept) = kept_in_period(rate, phase);
+            let a = mark(a_is_kept, decisions, next);
+            next += usize::from(a_is_kept);
+            let b = mark(b_is_kept, decisions, next);
+            next += usize::from(b_is_kept);
+            phase = next_in_period(rate, phase);
             self.step(a, b, steps);
         }
     }
@@ -73,27 +81,15 @@ impl Trellis {
     }
 }
 
-// The marks of a step, for A and for B.
-fn pair(rate: CodeRate, decisions: &[u8], step: usize) -> (Mark, Mark)
-    requires few { step < 2 ^ 20 }
-    requires decisions { kept_count rate (step + 1) ≤ length decisions.now }
-    ensures { result ≡ marks_at rate decisions.now step }
+// The mark of a place, which is that of the next decision where the place is kept.
+fn mark(is_kept: bool, decisions: &[u8], next: usize) -> Mark
+    requires { is_kept ≡ true → next < length decisions.now }
+    ensures { result
+        ≡ (if is_kept
+        then (if slice_index decisions.now next == 0 then Zero else One)
+        else Absent) }
 {
-    let first = kept_before(rate, step);
-    let second = first + usize::from(kept(rate, 2 * step));
-    (
-        mark(rate, decisions, 2 * step, first),
-        mark(rate, decisions, 2 * step + 1, second),
-    )
-}
-
-// The mark at a place that has so many kept places before it.
-fn mark(rate: CodeRate, decisions: &[u8], place: usize, next: usize) -> Mark
-    requires next { next ≡ rank rate place }
-    requires decisions { is_kept rate place ≡ true → next < length decisions.now }
-    ensures { result ≡ mark_at rate decisions.now place }
-{
-    if !kept(rate, place) {
+    if !is_kept {
         Mark::Absent
     } else if decisions[next] == 0 {
         Mark::Zero

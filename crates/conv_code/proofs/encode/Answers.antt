@@ -1,35 +1,21 @@
-use Rattle.std.proofs.Common.{◌≡◌, refl, arith, append_assoc, rules}
-use Rattle.conv_code.specs.Code.{code_of, earlier, parity_a, parity_b}
-use Rattle.conv_code.specs.States.{state_before}
-use Rattle.conv_code.proofs.Coded.{code_more, Codes-code_of, AreBits-code_of}
+use Rattle.std.proofs.Common.{◌≡◌, ℕ, List, ◌++◌, ◌*◌, length, replicate, ap, ◌∙◌, arith, rules}
+use Rattle.std.proofs.lemmas.List.{take_at}
+use Rattle.conv_code.specs.Code.{code_of}
+use Rattle.conv_code.proofs.Coded.{Codes-code_of, AreBits-code_of}
 use Rattle.conv_code.proofs.encode.Goals as goal
 
-pub loop-bit-init : goal.loop-bit-init
-unfolding state_before earlier
-loop-bit-init c = record {
-  coded = c.new-code.ensures.items;
-  state = refl;
-  below = omega arith;
-}
-
-pub loop-bit-preserved : goal.loop-bit-preserved
-loop-bit-preserved c =
-    let u = c.args.bits.now in
-    let i = c.loop-bit.bit-index in
-    let a : c.branch-a.result.0 ≡ parity_a u i = c.branch-a.ensures.a_along u i c.requires (omega arith) c.loop-bit.invariant.state refl in
-    let b : c.branch-a.result.1 ≡ parity_b u i = c.branch-a.ensures.b_along u i c.requires (omega arith) c.loop-bit.invariant.state refl in
-    record {
-      coded = rw (c.in_ok-push-2.ensures.items, c.in_ok-push.ensures.items, c.loop-bit.invariant.coded, code_more u i, a, b, append_assoc);
-      state = c.next_state-state.ensures.after_along u i c.requires (omega arith) c.loop-bit.invariant.state refl;
-      below = c.next_state-state.ensures.below_64;
-    }
+pub returns-clause-list : goal.returns-clause-list
+returns-clause-list c =
+    let bits = c.args.bits.now in
+    let start : c.in_ok-inputs.inputs.items ≡ replicate 6 0 = search rules in
+    let behind : c.deref.result.now ≡ replicate 6 0 ++ bits =
+    c.deref.ensures.value ∙ c.in_ok-extend_from_slice.ensures.items ∙ ap (λ (front : List ℕ). front ++ bits) start in
+    let whole : c.put_code.new.code ≡ code_of bits = c.put_code.ensures bits behind in
+    let long : length c.put_code.new.code ≡ c.in_ok-code.code.len = omega (arith, ap length whole, (Codes-code_of bits).twice, c.in_ok-code.ensures.len) in
+    take_at c.put_code.new.code _ c.in_ok-code.code.len long ∙ whole
 
 pub returns-clause-codes : goal.returns-clause-codes
-returns-clause-codes c =
-    let whole : c.loop-bit.code.items ≡ code_of c.args.bits.now = search rules in
-    rw whole (Codes-code_of c.args.bits.now)
+returns-clause-codes c = rw (returns-clause-list c) (Codes-code_of c.args.bits.now)
 
 pub returns-clause-bits : goal.returns-clause-bits
-returns-clause-bits c =
-    let whole : c.loop-bit.code.items ≡ code_of c.args.bits.now = search rules in
-    rw whole (AreBits-code_of c.args.bits.now)
+returns-clause-bits c = rw (returns-clause-list c) (AreBits-code_of c.args.bits.now)

@@ -1,6 +1,7 @@
 use Rattle.std.proofs.Common.{◌<◌, slice_index, refl, arith}
 use Rattle.rate_table.specs.Table.{row_of}
 use Rattle.interleave_two.specs.Place.{interleaved_place}
+use Rattle.interleave_two.proofs.Ways.{interleaved_place-lt}
 use Rattle.interleave_two.proofs.ByPlace.{take-by_place, interleaved-by_place, interleaved-deinterleaved, AreBits-by_place, coded_bits-le, slice_index-zeros, deinterleaved-take}
 use Rattle.interleave_two.proofs.deinterleave.Goals as goal
 
@@ -10,6 +11,11 @@ loop-k-init c = record {
   read = λ m below. absurd (omega arith);
   rest = λ m _. slice_index-zeros 288 m;
 }
+
+pub bounds-bits-from : goal.bounds-bits-from
+bounds-bits-from c =
+    let below : c.loop-k.k < (row_of c.args.rate).coded_bits = omega (arith, c.coded_bits-k-end.ensures) in
+    omega (arith, c.from.ensures, c.places_in_order-places.ensures.places c.loop-k.k below, interleaved_place-lt c.args.rate c.loop-k.k below, coded_bits-le c.args.rate)
 
 pub returns-clause-by_place : goal.returns-clause-by_place
 returns-clause-by_place c k below =

@@ -5,6 +5,6 @@ use Rattle.interleave_two.proofs.deinterleave.Given as goal
 abbrev pub invariant-loop-k : goal.invariant-loop-k
 invariant-loop-k l = record {
   long : length l.order ≡ 288;
-  read : (m : ℕ) → m < l.k → slice_index l.order m ≡ slice_index l.bits (interleaved_place l.rate m);
+  read : (m : ℕ) → m < l.k → slice_index l.order m ≡ slice_index l.bits (interleaved_place l.fn.rate m);
   rest : (m : ℕ) → l.k ≤ m → slice_index l.order m ≡ 0;
 }

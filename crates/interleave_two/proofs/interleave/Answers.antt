@@ -1,7 +1,7 @@
 use Rattle.std.proofs.Common.{◌<◌, slice_index, ap, ◌∙◌, refl, arith}
 use Rattle.rate_table.specs.Table.{row_of}
 use Rattle.interleave_two.specs.Place.{interleaved_place, source_of}
-use Rattle.interleave_two.proofs.Ways.{interleaved_place-lt, source_of-interleaved_place}
+use Rattle.interleave_two.proofs.Ways.{interleaved_place-lt, source_of-interleaved_place, source_of-lt}
 use Rattle.interleave_two.proofs.ByPlace.{take-by_place, deinterleaved-by_place, deinterleaved-interleaved, AreBits-by_place, coded_bits-le, slice_index-zeros, interleaved-take}
 use Rattle.interleave_two.proofs.interleave.Goals as goal
 
@@ -11,6 +11,11 @@ loop-j-init c = record {
   read = λ m below. absurd (omega arith);
   rest = λ m _. slice_index-zeros 288 m;
 }
+
+pub bounds-bits-from : goal.bounds-bits-from
+bounds-bits-from c =
+    let below : c.loop-j.j < (row_of c.args.rate).coded_bits = omega (arith, c.coded_bits-j-end.ensures) in
+    omega (arith, c.from.ensures, c.sources_in_order-sources.ensures.sources c.loop-j.j below, source_of-lt c.args.rate c.loop-j.j below, coded_bits-le c.args.rate)
 
 pub returns-clause-by_place : goal.returns-clause-by_place
 returns-clause-by_place c k below =

@@ -1,42 +1,48 @@
-use Rattle.std.proofs.Common.{◌≡◌, ◌*◌, length, take, sym, ◌∙◌, ap, arith}
+use Rattle.std.proofs.Common.{◌≡◌, ℕ, ◌+◌, ◌*◌, ◌/◌, ◌<◌, ◌≤◌, suc, add-one, length, take, sym, ◌∙◌, ap, arith}
+use Rattle.std.proofs.Math.Nat.{mul-suc, mul-mod_right}
 use Rattle.std.proofs.lemmas.List.{length-map}
 use Rattle.std.specs.List.{slice_index}
 use Rattle.bit_lists.specs.Bits.{IsBit}
 use Rattle.std.proofs.lemmas.List.Elements.{All-same}
-use Rattle.puncture_map.specs.Kept.{kept_places, kept_count}
+use Rattle.puncture_map.specs.Kept.{kept_count, kept_list, kept_places, period_of}
 use Rattle.rate_table.specs.Table.{row_of}
 use Rattle.puncture_map.proofs.Counts.{kept_count-symbols}
-use Rattle.puncture_map.proofs.KeptBits.{kept_bits, kept_bits-kept, kept_bits-dropped, AreBits-kept_bits, kept_list-take}
+use Rattle.puncture_map.proofs.KeptBits.{kept_bits, AreBits-kept_bits, kept_list-take}
 use Rattle.puncture_map.proofs.puncture.Goals as goal
-use Rattle.puncture_map.proofs.puncture.Goals.{then-kept+in_ok-push, else-kept}
 
-pub loop-place-preserved : goal.loop-place-preserved
-loop-place-preserved c =
-    elim c.if-kept.branch [
-      | then-kept+in_ok-push w ↦ (let more = kept_bits-kept c.args.rate c.args.code.now c.loop-place.place (cc) in cc w.in_ok-push.ensures.items)
-      | else-kept w ↦ (let more = kept_bits-dropped c.args.rate c.args.code.now c.loop-place.place (cc) in cc)
-    ]
+-- a period more
+period_more : (half period begun : ℕ) → half ≡ period → 2 * half * (begun + 1) ≡ 2 * half * begun + 2 * period
+period_more half period begun same = rw (add-one, mul-suc (2 * half) begun, same)
+
+pub put_period-requires-clause-begins : goal.put_period-requires-clause-begins
+put_period-requires-clause-begins c = rw c.period-places.ensures (mul-mod_right (2 * period_of c.args.rate) c.loop-begun.begun)
+
+pub loop-begun-preserved : goal.loop-begun-preserved
+loop-begun-preserved c =
+    rw (period_more c.period-places.result (period_of c.args.rate) c.loop-begun.begun c.period-places.ensures) (c.in_ok-put_period.ensures c.loop-begun.invariant)
+
+pub returns-clause-list : goal.returns-clause-list
+returns-clause-list c =
+    let done : c.loop-begun.begun ≡ length c.args.code.now / (2 * c.period-places.result) = omega arith in
+    c.in_ok-put_rest.ensures (rw done at c.loop-begun.invariant)
 
 pub returns-clause-bits : goal.returns-clause-bits
 returns-clause-bits c =
-    let place_is : c.loop-place.place ≡ length c.args.code.now = omega arith in
-    let all = c.loop-place.invariant ∙ ap (kept_bits c.args.rate c.args.code.now) place_is in
-    let bits = AreBits-kept_bits c.args.rate c.args.code.now (length c.args.code.now) c.requires.bits in
-    All-same IsBit c.loop-place.bits.items (kept_bits c.args.rate c.args.code.now (length c.args.code.now)) all bits
+    let code = c.args.code.now in
+    let bits = AreBits-kept_bits c.args.rate code (length code) c.requires.bits in
+    All-same IsBit c.put_rest.new.bits.items (kept_bits c.args.rate code (length code)) (returns-clause-list c) bits
 
 pub returns-clause-whole_symbols : goal.returns-clause-whole_symbols
-returns-clause-whole_symbols c r symbols same long =
-    let place_is : c.loop-place.place ≡ length c.args.code.now = omega arith in
-    let law = kept_count-symbols r c.args.rate symbols same in
-    let count = ap length c.loop-place.invariant ∙ length-map (kept_places c.args.rate c.loop-place.place) (slice_index c.args.code.now) in
-    let places = ap (λ n. length (kept_places c.args.rate n)) (place_is ∙ long) in
-    cc
+returns-clause-whole_symbols c = λ r symbols same long.
+    let code = c.args.code.now in
+    ap length (returns-clause-list c)
+    ∙ length-map (kept_places c.args.rate (length code)) (slice_index code)
+    ∙ ap (λ n. length (kept_places c.args.rate n)) long
+    ∙ kept_count-symbols r c.args.rate symbols same
 
 pub returns-clause-symbol_by_symbol : goal.returns-clause-symbol_by_symbol
-returns-clause-symbol_by_symbol c r symbols same within =
-    let place_is : c.loop-place.place ≡ length c.args.code.now = omega arith in
-    let all = c.loop-place.invariant ∙ ap (kept_bits c.args.rate c.args.code.now) place_is in
+returns-clause-symbol_by_symbol c = λ r symbols same within.
     let law = kept_count-symbols r c.args.rate symbols same in
-    ap (λ n. take n c.loop-place.bits.items) (sym law)
-    ∙ ap (take (kept_count c.args.rate (symbols * (row_of r).field_bits))) all
+    ap (λ n. take n c.put_rest.new.bits.items) (sym law)
+    ∙ ap (take (kept_count c.args.rate (symbols * (row_of r).field_bits))) (returns-clause-list c)
     ∙ kept_list-take c.args.rate c.args.code.now (2 * (symbols * (row_of r).field_bits)) within

@@ -1,6 +1,5 @@
-use Rattle.std.proofs.Common.{◌≡◌, []}
-use Rattle.survivor_memory.specs.Survivors.{Holds}
+use Rattle.std.proofs.Common.{◌≡◌, length}
 use Rattle.survivor_memory.proofs.tests.nearest_of_all_lists.Given as goal
 
 abbrev pub invariant-loop-pairs : goal.invariant-loop-pairs
-invariant-loop-pairs g l = record { empty : Holds l.memory []; room : l.memory.room ≡ 12 }
+invariant-loop-pairs g l = record { empty : length l.memory.rows ≡ 0; room : l.memory.room ≡ 12 }

@@ -1,17 +1,43 @@
-use Rattle.std.proofs.Common.{◌+◌, ◌≡◌, arith, refl, inl, inr, sym, ap, ◌++◌, ◌∷◌, [], ◌∙◌, append_assoc, append-nil}
+use Rattle.std.proofs.Common.{ℕ, ◌+◌, ◌*◌, ◌≡◌, ◌<◌, ◌≤◌, Bool, true, false, cond, List, length, ◌%◌, ◌^◌, Fits, w64, get_or, arith, refl, inl, inr, sym, ap, ◌++◌, ◌∷◌, [], ◌∙◌, append_assoc, append-nil}
+use Rattle.std.specs.Prelude.{◌==◌, if◌then◌else◌}
+use mir.Val.{bool_byte}
 use Rattle.std.proofs.lemmas.Bool.{cases_lt}
-use Rattle.puncture_map.proofs.Ranks.{kept_count-rises}
-use Rattle.viterbi_lanes.specs.Decisions.{marks_of}
+use Rattle.rate_table.specs.declared.CodeRate.{CodeRate}
+use Rattle.rate_table.specs.declared.CodeRate.TheVariants.{Half, TwoThirds, ThreeQuarters}
+use Rattle.puncture_map.specs.Kept.{is_kept, kept_count, period_of, rank}
+use Rattle.puncture_map.proofs.Periods.{at_start, byte_le, rank-counted, rank-within}
+use Rattle.viterbi_lanes.specs.declared.Mark.{Mark}
+use Rattle.viterbi_lanes.specs.declared.Mark.TheVariants.{Zero, One, Absent}
+use Rattle.viterbi_lanes.specs.Decisions.{mark_at, marks_at, marks_of}
 use Rattle.viterbi_lanes.proofs.Decisions.{marks_of_more}
 use Rattle.viterbi_lanes.proofs.Trellis.feed.Goals as goal
 
-pub pair-a-requires-clause-decisions : goal.pair-a-requires-clause-decisions
-pair-a-requires-clause-decisions c =
-    omega (arith, c.requires.decisions, kept_count-rises c.args.rate (c.loop-step.step + 1) c.args.count (omega arith))
+-- the mark of a place, by whether it is kept, and its rank
+mark_is : (rate : CodeRate) (decisions : List ℕ) (place next : ℕ) (kept : Bool) (mark : Mark) → kept ≡ is_kept rate place → next ≡ rank rate place
+    → mark ≡ (if kept then (if get_or decisions next 0 == 0 then Zero else One) else Absent) → mark ≡ mark_at rate decisions place
+mark_is rate decisions place next kept mark is at made = made ∙ rw (is, at)
+
+pub mark-a-requires : goal.mark-a-requires
+mark-a-requires c = λ kept.
+    let step = c.loop-step._step in
+    let is = c.kept_in_period-a_is_kept.ensures.first step c.loop-step.invariant.phase in
+    omega (arith, c.loop-step.invariant.next, rank-within c.args.rate (2 * step) step c.args.count (length c.args.decisions.now) c.kept_in_period-a_is_kept.result.0 (omega arith) (omega arith) c.requires.decisions is kept)
+
+pub mark-b-requires : goal.mark-b-requires
+mark-b-requires c = λ kept.
+    let step = c.loop-step._step in
+    let first = c.kept_in_period-a_is_kept.ensures.first step c.loop-step.invariant.phase in
+    let second = c.kept_in_period-a_is_kept.ensures.second step c.loop-step.invariant.phase in
+    let next = rank-counted c.args.rate (2 * step) c.from-next.result c.kept_in_period-a_is_kept.result.0 c.from-next.ensures first in
+    omega (arith, c.loop-step.invariant.next, next, rank-within c.args.rate (2 * step + 1) step c.args.count (length c.args.decisions.now) c.kept_in_period-a_is_kept.result.1 (omega arith) (omega arith) c.requires.decisions second kept)
 
 pub loop-step-init : goal.loop-step-init
 loop-step-init c = record {
   stands = λ marks stands. rw (append-nil marks) stands;
+  phase = (at_start c.args.rate).0;
+  within = (at_start c.args.rate).1;
+  next = refl;
+  few = omega arith;
   held = omega arith;
   room = omega arith;
   none = λ start. refl;
@@ -20,24 +46,50 @@ loop-step-init c = record {
 }
 
 pub loop-step-preserved : goal.loop-step-preserved
-loop-step-preserved c = record {
-  stands = λ marks stands.
-      let before = marks_of c.args.rate c.args.decisions.now c.loop-step.step in
-      let more = marks_of_more c.args.rate c.args.decisions.now c.loop-step.step in
-      let pair = ap (λ pair. before ++ pair ∷ []) c.pair-a.ensures ∙ sym more in
-      let stood = c.step.ensures.appended (marks ++ before) (c.loop-step.invariant.stands marks stands) in
-      rw (append_assoc, pair) at stood;
-  held = omega arith;
-  room = omega arith;
-  none = λ start. absurd (omega arith);
-  counted = λ _. elim (cases_lt 0 c.loop-step.step) [
-    | inl more ↦ omega (arith, c.step.ensures.counted, c.loop-step.invariant.counted more)
-    | inr start ↦ omega (arith, c.step.ensures.counted, c.loop-step.invariant.none (omega arith))
-  ];
-  entries = λ _. c.step.ensures.entries;
+unfolding marks_at
+loop-step-preserved c =
+    let rate = c.args.rate in
+    let decisions = c.args.decisions.now in
+    let step = c.loop-step._step in
+    let kept = c.kept_in_period-a_is_kept in
+    let first = kept.ensures.first step c.loop-step.invariant.phase in
+    let second = kept.ensures.second step c.loop-step.invariant.phase in
+    let next = rank-counted rate (2 * step) c.from-next.result kept.result.0 c.from-next.ensures first in
+    let after = rank-counted rate (2 * step + 1) c.from-next-in-loop-step.result kept.result.1 c.from-next-in-loop-step.ensures second in
+    let a : c.mark-a.result ≡ mark_at rate decisions (2 * step) = mark_is rate decisions (2 * step) c.loop-step.next kept.result.0 c.mark-a.result first c.loop-step.invariant.next c.mark-a.ensures in
+    let b : c.mark-b.result ≡ mark_at rate decisions (2 * step + 1) =
+    mark_is rate decisions (2 * step + 1) (c.loop-step.next + c.from-next.result) kept.result.1 c.mark-b.result second (omega (arith, next, c.loop-step.invariant.next)) c.mark-b.ensures
+    in
+    let places : 2 * (step + 1) ≡ 2 * step + 1 + 1 = omega arith in
+    record {
+      stands = λ marks stands.
+          let before = marks_of rate decisions step in
+          let pair : before ++ (c.mark-a.result, c.mark-b.result) ∷ [] ≡ marks_of rate decisions (step + 1) = rw (a, b) (sym (marks_of_more rate decisions step)) in
+          let stood = c.step.ensures.appended (marks ++ before) (c.loop-step.invariant.stands marks stands) in
+          rw (append_assoc, pair) at stood;
+      phase = sym (c.next_in_period-phase.ensures.next step c.loop-step.invariant.phase);
+      within = c.next_in_period-phase.ensures.within;
+      next = rw places (omega (arith, next, after, c.loop-step.invariant.next));
+      few = omega (arith, c.loop-step.invariant.few, c.from-next.ensures, byte_le kept.result.0, c.from-next-in-loop-step.ensures, byte_le kept.result.1);
+      held = omega arith;
+      room = omega arith;
+      none = λ start. absurd (omega arith);
+      counted = λ _. elim (cases_lt 0 step) [
+        | inl more ↦ omega (arith, c.step.ensures.counted, c.loop-step.invariant.counted more)
+        | inr start ↦ omega (arith, c.step.ensures.counted, c.loop-step.invariant.none (omega arith))
+      ];
+      entries = λ _. c.step.ensures.entries;
+    }
+
+pub overflow_add-next : goal.overflow_add-next
+overflow_add-next c = record { fits = omega (arith, c.loop-step.invariant.few, c.from-next.ensures, byte_le c.kept_in_period-a_is_kept.result.0) }
+
+pub overflow_add-next-in-loop-step : goal.overflow_add-next-in-loop-step
+overflow_add-next-in-loop-step c = record {
+  fits = omega (arith, c.loop-step.invariant.few, c.from-next.ensures, byte_le c.kept_in_period-a_is_kept.result.0, c.from-next-in-loop-step.ensures, byte_le c.kept_in_period-a_is_kept.result.1);
 }
 
 pub returns-clause-appended : goal.returns-clause-appended
 returns-clause-appended c =
-    let all : c.loop-step.step ≡ c.args.count = omega arith in
+    let all : c.loop-step._step ≡ c.args.count = omega arith in
     rw (← all) c.loop-step.invariant.stands

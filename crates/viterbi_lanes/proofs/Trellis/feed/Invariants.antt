@@ -1,5 +1,6 @@
-use Rattle.std.proofs.Common.{◌≡◌, ◌+◌, ◌<◌, List, ◌++◌, length}
+use Rattle.std.proofs.Common.{◌≡◌, ◌+◌, ◌*◌, ◌%◌, ◌<◌, ◌≤◌, List, ◌++◌, length}
 use Rattle.modem_ports.specs.Counts.{raised_by}
+use Rattle.puncture_map.specs.Kept.{kept_count, period_of}
 use Rattle.survivor_memory.specs.Survivors.{AreEntries}
 use Rattle.viterbi_lanes.specs.declared.Mark.{Mark}
 use Rattle.viterbi_lanes.specs.Decisions.{marks_of}
@@ -8,10 +9,14 @@ use Rattle.viterbi_lanes.proofs.Trellis.feed.Given as goal
 
 abbrev pub invariant-loop-step : goal.invariant-loop-step
 invariant-loop-step l = record {
-  stands : (marks : List (Mark × Mark)) → StandsFor l.initial.self marks → StandsFor l.self (marks ++ marks_of l.rate l.decisions l.step);
-  held : length l.self.rows ≡ length l.initial.self.rows + l.step;
+  stands : (marks : List (Mark × Mark)) → StandsFor l.initial.self marks → StandsFor l.self (marks ++ marks_of l.rate l.decisions l._step);
+  phase : l._step % period_of l.rate ≡ l.phase;
+  within : l.phase < period_of l.rate;
+  next : l.next ≡ kept_count l.rate l._step;
+  few : l.next ≤ 2 * l._step;
+  held : length l.self.rows ≡ length l.initial.self.rows + l._step;
   room : l.self.room ≡ l.initial.self.room;
-  none : l.step ≡ 0 → l.steps ≡ l.initial.steps;
-  counted : 0 < l.step → l.steps ≡ raised_by l.step l.initial.steps;
-  entries : 0 < l.step → AreEntries l.self.entries;
+  none : l._step ≡ 0 → l.steps ≡ l.initial.steps;
+  counted : 0 < l._step → l.steps ≡ raised_by l._step l.initial.steps;
+  entries : 0 < l._step → AreEntries l.self.entries;
 }

@@ -1,0 +1,33 @@
+-- Kept places, walked step by step.
+use Rattle.std.proofs.Common.{◌≡◌, ℕ, ◌+◌, ◌*◌, ◌%◌, ◌<◌, ◌≤◌, Bool, true, false, cond, refl, sym, ap, ◌∙◌, arith}
+use mir.Val.{bool_byte}
+use Rattle.rate_table.specs.declared.CodeRate.{CodeRate}
+use Rattle.rate_table.specs.declared.CodeRate.TheVariants.{Half, TwoThirds, ThreeQuarters}
+use Rattle.puncture_map.specs.Kept.{is_kept, kept_count, period_of, rank}
+use Rattle.puncture_map.proofs.Ranks.{kept_count-rises, rank-below, rank-more}
+
+-- the first step begins a period
+pub at_start : (rate : CodeRate) → (0 % period_of rate ≡ 0) × (0 < period_of rate)
+at_start Half = (refl, omega arith)
+at_start TwoThirds = (refl, omega arith)
+at_start ThreeQuarters = (refl, omega arith)
+
+-- a test as a number
+byte_is : (b : Bool) → bool_byte b ≡ cond b 1 0
+byte_is true = refl
+byte_is false = refl
+
+pub byte_le : (b : Bool) → bool_byte b ≤ 1
+byte_le true = omega arith
+byte_le false = omega arith
+
+-- the rank of the next place, where a kept place counts
+pub rank-counted : (rate : CodeRate) (place more : ℕ) (kept : Bool) → more ≡ bool_byte kept → kept ≡ is_kept rate place → rank rate (place + 1) ≡ rank rate place + more
+rank-counted rate place more kept counted is =
+    let same : more ≡ cond (is_kept rate place) 1 0 = counted ∙ ap bool_byte is ∙ byte_is (is_kept rate place) in
+    rw same (rank-more rate place)
+
+-- among as many bits as so many steps keep, a kept place of an earlier step has one
+pub rank-within : (rate : CodeRate) (place step count long : ℕ) (kept : Bool) → place < 2 * (step + 1) → step < count → kept_count rate count ≤ long → kept ≡ is_kept rate place → kept ≡ true → rank rate place < long
+rank-within rate place step count long kept within below enough is holds =
+    omega (arith, rank-below rate place (step + 1) within (sym is ∙ holds), kept_count-rises rate (step + 1) count (omega arith))
