@@ -1,17 +1,19 @@
 //! The estimate of a channel.
-ghost use Rattle.std.specs.Prelude.{◌≡◌, ℕ, slice_index, take, ◌^◌, ◌<◌, ◌≤◌, ◌*ℤ◌, replicate, unsigned_abs};
+ghost use Rattle.std.specs.Prelude.{◌≡◌, ℕ, List, slice_index, take, ◌^◌, ◌<◌, ◌≤◌, ◌≤ℤ◌, ◌*ℤ◌, pos, neg_ℤ, replicate, unsigned_abs};
 ghost use Rattle.bit_lists.specs.Bits.{AreBits};
 ghost use Rattle.rate_table.specs.Table.{row_of};
 ghost use Rattle.carrier_equaliser.specs.Decided.{interleaved_decisions};
 ghost use Rattle.fixed_complex.specs.Pairs.{IsWithin, multiple, plus, zero_pair};
 ghost use Rattle.fixed_complex.specs.PairLists.{PairsWithin, entry};
 ghost use Rattle.carrier_bins.specs.Bins.{carrier_in};
+ghost use Rattle.carrier_bins.specs.Carriers.{bin_of};
+ghost use Rattle.fixed_complex.specs.declared.Cx.{Cx};
 ghost use Rattle.training_fields.specs.Training.{long_sign_of};
 ghost use Rattle.carrier_equaliser.specs.Estimates.{estimate_at, estimate_of};
 
 use crate::ZERO;
 use crate::decisions::decide_all;
-use carrier_bins::carrier_in;
+use carrier_bins::{bin, carrier_in};
 use fixed_complex::{Cx, add};
 use rate_table::Rate;
 use std::marker::Model;
@@ -48,6 +50,20 @@ impl Estimate {
             bins[bin] = estimated(first, second, bin);
         }
         Estimate { bins }
+    }
+
+    /// The estimate of a carrier from -32 to 31, so (0, 0) where L has no entry. Each component is at most 2^23 in size
+    /// (own). Takes no memory.
+    pub fn at(&self, carrier: i32) -> Cx
+        requires least { neg_ℤ (pos 32) ≤ℤ carrier }
+        requires most { carrier ≤ℤ pos 31 }
+        ensures value { result ≡ entry self.now (bin_of carrier) }
+        ensures none { (first second : List Cx) → self.now ≡ estimate_of first second
+            → long_sign_of carrier ≡ pos 0
+            → result ≡ zero_pair }
+        ensures within { IsWithin (2 ^ 23) result }
+    {
+        self.bins[bin(carrier)]
     }
 
     /// The decisions of a symbol, in interleaved order, and 0 in the entries past N_CBPS: for each data number those of

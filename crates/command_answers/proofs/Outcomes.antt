@@ -22,11 +22,11 @@ use Rattle.report_lines.specs.Refusals.{IsDecided, answering, asking, status_of,
 use Rattle.std.specs.Result.{IfErr, IfOk, result_err}
 use Rattle.command_words.proofs.Asked.{asked_or_refused, nothing_asked, one_refusal, one_request}
 use Rattle.command_words.specs.declared.Request.{Request}
-use Rattle.command_words.specs.declared.Request.TheVariants.{Bits, Decode, DecodeSoft, Send, SendList, Receive, Noise, Echo, Inspect, Drill, Show}
+use Rattle.command_words.specs.declared.Request.TheVariants.{Bits, Decode, DecodeSoft, Send, SendList, Receive, Noise, Echo, Rotate, Inspect, Drill, Show}
 use Rattle.command_words.specs.declared.Stage.TheVariants.{Kept}
 use Rattle.command_words.specs.Asking.{AreRefusedFor, AskFor, command_of}
 use Rattle.frame_stages.specs.Stages.{stage_text_of}
-use Rattle.command_answers.specs.Answers.{echoed_bytes, noisy_bytes}
+use Rattle.command_answers.specs.Answers.{echoed_bytes, noisy_bytes, rotated_bytes}
 use Rattle.command_answers.specs.InOrder.{Answers, Outcome, Refuses, Writes}
 use Rattle.command_answers.specs.declared.reading.Reading.{Reading}
 use Rattle.command_answers.specs.Inputs.{IsAccepted, IsInput, OfInput, Reads, RefusesInput, reads}
@@ -89,6 +89,7 @@ answer_some some (Send rate seed) read = (Writes (sent_bytes rate seed read), re
 answer_some some (Noise items) read = (Writes (noisy_bytes items read), refl)
 answer_some some SendList read = list_some read
 answer_some some (Echo pairs) read = (Writes (echoed_bytes pairs read), refl)
+answer_some some (Rotate start step) read = (Writes (rotated_bytes start step read), refl)
 answer_some some Receive read = received_some some.findings (samples_in read)
 answer_some some Inspect read = reports_some some.reports (samples_in read)
 answer_some some (Drill count) read = drill_some count
@@ -102,6 +103,7 @@ answer_one one (Send rate seed) read a b is is' = is ∙ sym is'
 answer_one one (Noise items) read a b is is' = is ∙ sym is'
 answer_one one SendList read a b has has' = list_one read a b has has'
 answer_one one (Echo pairs) read a b is is' = is ∙ sym is'
+answer_one one (Rotate start step) read a b is is' = is ∙ sym is'
 answer_one one Receive read a b has has' = received_one one.findings (samples_in read) a b has has'
 answer_one one Inspect read a b has has' = reports_one one.reports (samples_in read) a b has has'
 answer_one one (Drill count) read a b has has' = drill_one count a b has has'
@@ -125,6 +127,7 @@ answer_is_no_word (Send rate seed) read outcome is = rw is tt
 answer_is_no_word (Noise items) read outcome is = rw is tt
 answer_is_no_word SendList read outcome has = list_all IsNoWord read (λ refusal at asks. cc) (λ answer. tt) outcome has
 answer_is_no_word (Echo pairs) read outcome is = rw is tt
+answer_is_no_word (Rotate start step) read outcome is = rw is tt
 answer_is_no_word Receive read outcome (heard, cut, found, is) = rw is (received_is_no_word heard cut)
 answer_is_no_word Inspect read outcome has = answers_all IsNoWord (HasReports (samples_in read)) (λ answer. tt) outcome has
 answer_is_no_word (Drill count) read outcome has = answers_all IsNoWord (HasDrilled count) (λ answer. tt) outcome has

@@ -8,11 +8,11 @@ use Rattle.report_lines.specs.declared.Status.TheVariants as status
 use Rattle.report_lines.specs.Refusals.{status_of}
 use Rattle.command_words.specs.declared.Command.{Command}
 use Rattle.command_words.specs.declared.Request.{Request}
-use Rattle.command_words.specs.declared.Request.TheVariants.{Bits, Decode, DecodeSoft, Send, SendList, Receive, Noise, Echo, Inspect, Drill, Show}
+use Rattle.command_words.specs.declared.Request.TheVariants.{Bits, Decode, DecodeSoft, Send, SendList, Receive, Noise, Echo, Rotate, Inspect, Drill, Show}
 use Rattle.command_words.specs.declared.Stage.TheVariants.{Kept}
 use Rattle.command_words.specs.Asking.{AreRefusedFor, AskFor, command_of}
 use Rattle.frame_stages.specs.Stages.{stage_text_of}
-use Rattle.command_answers.specs.Answers.{echoed_bytes, noisy_bytes}
+use Rattle.command_answers.specs.Answers.{echoed_bytes, noisy_bytes, rotated_bytes}
 use Rattle.command_answers.specs.Drilling.{HasDrilled}
 use Rattle.command_answers.specs.Receiving.{HasReceived, HasReports}
 use Rattle.command_answers.specs.Decoding.{DecodeOutcome, SoftOutcome}
@@ -29,6 +29,7 @@ AnswerOf (Send rate seed) read outcome = outcome ≡ Writes (sent_bytes rate see
 AnswerOf (Noise items) read outcome = outcome ≡ Writes (noisy_bytes items read)
 AnswerOf SendList read outcome = ListOutcome read outcome
 AnswerOf (Echo pairs) read outcome = outcome ≡ Writes (echoed_bytes pairs read)
+AnswerOf (Rotate start step) read outcome = outcome ≡ Writes (rotated_bytes start step read)
 AnswerOf Receive read outcome = HasReceived (samples_in read) outcome
 AnswerOf Inspect read outcome = Answers (HasReports (samples_in read)) outcome
 AnswerOf (Drill count) read outcome = Answers (HasDrilled count) outcome

@@ -14,6 +14,7 @@ ghost use Rattle.modem_ports.specs.Counts.{Rose};
 ghost use Rattle.modem_ports.specs.Told.{Takes, TakesPrefix};
 ghost use Rattle.noise_script.specs.Effects.{after_items};
 ghost use Rattle.report_lines.specs.Refusals.{answering, step_of};
+ghost use Rattle.symbol_turns.specs.Turning.{turned_samples};
 
 use crate::decoding::{decoded, soft_decoded};
 use crate::listing::listed;
@@ -29,6 +30,7 @@ use modem_ports::{Failed, Sink, Steps, write_all};
 use noise_script::Script;
 use report_lines::Refusal;
 use std::alloc::{AllocError, Global};
+use symbol_turns::turn_symbols;
 
 /// What a command writes (own).
 #[derive(Drop)]
@@ -92,9 +94,11 @@ fn answer_of_bytes(
         Request::Show { stage, rate, seed } => {
             Ok(Answer::Bytes(stage_text(alloc, stage, rate, seed, input)?))
         }
-        Request::Noise { .. } | Request::Echo { .. } | Request::Inspect | Request::Receive => {
-            unreachable!()
-        }
+        Request::Noise { .. }
+        | Request::Echo { .. }
+        | Request::Rotate { .. }
+        | Request::Inspect
+        | Request::Receive => unreachable!(),
     }
 }
 
@@ -105,6 +109,7 @@ fn answer_of_capture(
     samples: Vec<Sample>,
     steps: &mut Steps,
 ) -> Result<Answer, Refusal>
+    requires range { IsInRange (command_of request) }
     requires samples { AreSamples samples.items }
     requires most { vec_len samples ≤ 2 ^ 24 }
     requires kind { reads (command_of request) ≡ Reading.Capture }
@@ -116,6 +121,7 @@ fn answer_of_capture(
     match request {
         Request::Noise { script } => Ok(Answer::Samples(noisy_samples(&script, samples)?)),
         Request::Echo { taps } => Ok(Answer::Samples(taps.apply(alloc, &samples)?)),
+        Request::Rotate { start, step } => Ok(Answer::Samples(turned(start, step, samples))),
         Request::Inspect => Ok(Answer::Bytes(edges_text(alloc, &samples, steps)?)),
         _ => unreachable!(),
     }
@@ -129,6 +135,17 @@ fn noisy_samples(script: &Script, samples: Vec<Sample>) -> Result<Vec<Sample>, A
     let mut samples = samples;
     script.apply(&mut samples)?;
     Ok(samples)
+}
+
+// Samples with the symbols from a start on turned.
+fn turned(start: u32, step: u32, samples: Vec<Sample>) -> Vec<Sample>
+    requires step { step ≤ 63 }
+    requires most { vec_len samples ≤ 2 ^ 24 }
+    ensures { result.items ≡ turned_samples start step samples.items }
+{
+    let mut samples = samples;
+    turn_symbols(start, step, &mut samples);
+    samples
 }
 
 // The text of the reports on all edges of a capture.

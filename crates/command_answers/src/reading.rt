@@ -35,8 +35,11 @@ impl Reading {
             Request::Bits { .. } | Request::Send { .. } | Request::Show { .. } => Reading::Psdu,
             Request::Decode { .. } | Request::DecodeSoft { .. } | Request::SendList =>
                 Reading::Bytes,
-            Request::Receive | Request::Noise { .. } | Request::Echo { .. } | Request::Inspect =>
-                Reading::Capture,
+            Request::Receive
+            | Request::Noise { .. }
+            | Request::Echo { .. }
+            | Request::Rotate { .. }
+            | Request::Inspect => Reading::Capture,
             Request::Drill { .. } => Reading::Nothing,
         }
     }

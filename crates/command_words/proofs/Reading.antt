@@ -10,10 +10,10 @@ use Rattle.rate_table.proofs.ByRate.{by_rate, rate_of_mbps, rate_of_mbps-of}
 use Rattle.rate_table.specs.declared.Rate.{Rate}
 use Rattle.rate_table.specs.Table.{row_of}
 use Rattle.command_words.specs.declared.Command.{Command}
-use Rattle.command_words.specs.declared.Command.TheVariants.{Bits, Decode, DecodeSoft, Send, SendList, Receive, Noise, Echo, Inspect, Drill, Show}
+use Rattle.command_words.specs.declared.Command.TheVariants.{Bits, Decode, DecodeSoft, Send, SendList, Receive, Noise, Echo, Rotate, Inspect, Drill, Show}
 use Rattle.command_words.specs.declared.Stage.{Stage}
 use Rattle.command_words.specs.declared.Stage.TheVariants.{Scrambled, Coded, Kept, Interleaved, Points, Header, Samples}
-use Rattle.command_words.specs.Grammar.{AreWordsOf, IsFrom, IsInRange, Say, SayNothing, echo_words, noise_words, rate_word, stage_word}
+use Rattle.command_words.specs.Grammar.{AreWordsOf, IsFrom, IsInRange, Say, SayNothing, echo_words, most_start, noise_words, rate_word, stage_word}
 
 -- a fact or its contrary
 abbrev pub Decided : Type 0 → Type 0
@@ -72,7 +72,8 @@ command_in (name ∷ a ∷ b ∷ []) =
     cond (bytes_eq name (codes "bits")) (Some (Bits (rate_in a) (number_in b)))
     (cond (bytes_eq name (codes "decode")) (Some (Decode (rate_in a) (number_in b)))
     (cond (bytes_eq name (codes "decode-soft")) (Some (DecodeSoft (rate_in a) (number_in b)))
-    (cond (bytes_eq name (codes "send")) (Some (Send (rate_in a) (number_in b))) None)))
+    (cond (bytes_eq name (codes "send")) (Some (Send (rate_in a) (number_in b)))
+    (cond (bytes_eq name (codes "rotate")) (Some (Rotate (number_in a) (number_in b))) None))))
 command_in (name ∷ a ∷ b ∷ c ∷ []) = cond (bytes_eq name (codes "show")) (Some (Show (stage_in a) (rate_in b) (number_in c))) None
 command_in words = None
 
@@ -85,6 +86,7 @@ reads_back words (Send rate seed) range are = rw (are, rate_back rate, number_ba
 reads_back words Noise range (text, are) = rw are refl
 reads_back words SendList range are = rw are refl
 reads_back words Echo range (text, are) = rw are refl
+reads_back words (Rotate start step) range are = rw (are, number_back start (omega (arith, range.0.1)), number_back step (omega (arith, range.1.1))) refl
 reads_back words Receive range are = rw are refl
 reads_back words Inspect range are = rw are refl
 reads_back words (Drill count) range are = rw (are, number_back count (omega (arith, range.1))) refl
@@ -106,6 +108,12 @@ from_decided least most number =
       | inr some ↦ elim (cases_lt most number) [ inl high ↦ inr (λ is. omega (arith, is.1)) | inr most ↦ inl (omega arith, omega arith) ]
     ]
 
+-- two facts that are decided are, together
+both_decided : {P Q : Type 0} → Decided P → Decided Q → Decided (P × Q)
+both_decided (inl p) (inl q) = inl (p, q)
+both_decided (inl p) (inr out) = inr (λ both. out both.1)
+both_decided (inr out) q = inr (λ both. out both.0)
+
 -- the numbers of a command are in range, or not
 range_decided : (command : Command) → Decided (IsInRange command)
 range_decided (Bits rate seed) = from_decided 1 127 seed
@@ -115,6 +123,7 @@ range_decided (Send rate seed) = from_decided 1 127 seed
 range_decided Noise = inl tt
 range_decided SendList = inl tt
 range_decided Echo = inl tt
+range_decided (Rotate start step) = both_decided (from_decided 0 most_start start) (from_decided 0 63 step)
 range_decided Receive = inl tt
 range_decided Inspect = inl tt
 range_decided (Drill count) = from_decided 1 1000 count
@@ -154,6 +163,7 @@ words_decided words (Send rate seed) = same_words words _
 words_decided words SendList = same_words words _
 words_decided words Noise = text_decided (codes "noise") words
 words_decided words Echo = text_decided (codes "echo") words
+words_decided words (Rotate start step) = same_words words _
 words_decided words Receive = same_words words _
 words_decided words Inspect = same_words words _
 words_decided words (Drill count) = same_words words _

@@ -9,7 +9,7 @@ use Rattle.ofdm_scrambler.specs.Sequence.{IsSeed}
 use Rattle.command_words.specs.declared.Stage.{Stage}
 use Rattle.command_words.specs.declared.Stage.TheVariants.{Scrambled, Coded, Kept, Interleaved, Points, Header, Samples}
 use Rattle.command_words.specs.declared.Command.{Command}
-use Rattle.command_words.specs.declared.Command.TheVariants.{Bits, Decode, DecodeSoft, Send, SendList, Receive, Noise, Echo, Inspect, Drill, Show}
+use Rattle.command_words.specs.declared.Command.TheVariants.{Bits, Decode, DecodeSoft, Send, SendList, Receive, Noise, Echo, Rotate, Inspect, Drill, Show}
 
 -- the texts of the words of the command line
 abbrev pub texts_of : Vec (String Global) Global → List (List ℕ)
@@ -48,6 +48,7 @@ AreWordsOf (Send rate seed) words = words ≡ codes "send" ∷ rate_word rate �
 AreWordsOf Noise words = (text : List ℕ) × (words ≡ noise_words text)
 AreWordsOf SendList words = words ≡ codes "send-list" ∷ []
 AreWordsOf Echo words = (text : List ℕ) × (words ≡ echo_words text)
+AreWordsOf (Rotate start step) words = words ≡ codes "rotate" ∷ decimal start ∷ decimal step ∷ []
 AreWordsOf Receive words = words ≡ codes "receive" ∷ []
 AreWordsOf Inspect words = words ≡ codes "inspect" ∷ []
 AreWordsOf (Drill count) words = words ≡ codes "drill" ∷ decimal count ∷ []
@@ -58,6 +59,10 @@ AreWordsOf (Show stage rate seed) words =
 abbrev pub IsFrom : ℕ → ℕ → ℕ → Type 0
 IsFrom least most number = (least ≤ number) × (number ≤ most)
 
+-- the last place at which a capture of at most 2^24 samples has one
+abbrev pub most_start : ℕ
+most_start = 16777215
+
 -- the numbers of a command are within their ranges
 abbrev pub IsInRange : Command → Type 0
 IsInRange (Bits rate seed) = IsSeed seed
@@ -67,6 +72,7 @@ IsInRange (Send rate seed) = IsSeed seed
 IsInRange Noise = Unit {0}
 IsInRange SendList = Unit {0}
 IsInRange Echo = Unit {0}
+IsInRange (Rotate start step) = IsFrom 0 most_start start × IsFrom 0 63 step
 IsInRange Receive = Unit {0}
 IsInRange Inspect = Unit {0}
 IsInRange (Drill count) = IsFrom 1 1000 count

@@ -31,6 +31,7 @@ pub fn read_request(words: &Vec<String>) -> Result<Request, Refusal>
         Command::Noise => read_noise(words[1].as_str()),
         Command::SendList => Ok(Request::SendList),
         Command::Echo => read_echo(words[1].as_str()),
+        Command::Rotate { start, step } => Ok(Request::Rotate { start, step }),
         Command::Receive => Ok(Request::Receive),
         Command::Inspect => Ok(Request::Inspect),
         Command::Drill { count } => Ok(Request::Drill { count }),

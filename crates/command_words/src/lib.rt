@@ -62,6 +62,11 @@ pub enum Command {
     SendList,
     /// `echo TAPS`, whatever the text is that stands for the taps.
     Echo,
+    /// `rotate START STEP`
+    Rotate {
+        start: u32,
+        step: u32,
+    },
     /// `receive`
     Receive,
     /// `inspect`
@@ -110,6 +115,11 @@ pub enum Request {
     /// The echo of a capture's samples.
     Echo {
         taps: Taps,
+    },
+    /// The samples of a capture with the symbols from a start on turned.
+    Rotate {
+        start: u32,
+        step: u32,
     },
     /// A line for each frame of a capture, and for the cut that it ends in.
     Receive,

@@ -1,6 +1,6 @@
 //! Numbers in the words: decimal digits with no sign and no leading zero (own).
 ghost use Rattle.std.specs.Prelude.{◌≡◌, ◌≤◌, decimal, IfSome, IfNone};
-ghost use Rattle.command_words.specs.Grammar.{IsFrom, NamesNoRate, WritesNoneFrom, rate_word};
+ghost use Rattle.command_words.specs.Grammar.{IsFrom, NamesNoRate, WritesNoneFrom, most_start, rate_word};
 ghost use Rattle.ofdm_scrambler.specs.Sequence.{IsSeed};
 ghost use Rattle.rate_table.specs.Symbols.{IsLength, most_octets};
 ghost use Rattle.word_grammar.specs.Numbers.{IsWide};
@@ -43,6 +43,24 @@ pub fn read_count(word: &str) -> Option<u32>
     ensures none { IfNone result (WritesNoneFrom 1 1000 word.now) }
 {
     Some(read_from(word, 1, 1000)? as u32)
+}
+
+// The start of a frame that a word writes, 0 to 16777215.
+pub fn read_start(word: &str) -> Option<u32>
+    ensures start { IfSome result (λ start. word.now ≡ decimal start) }
+    ensures range { IfSome result (IsFrom 0 most_start) }
+    ensures none { IfNone result (WritesNoneFrom 0 most_start word.now) }
+{
+    Some(read_from(word, 0, 16777215)? as u32)
+}
+
+// The number of 64ths of a circle that a word writes, 0 to 63.
+pub fn read_step(word: &str) -> Option<u32>
+    ensures step { IfSome result (λ step. word.now ≡ decimal step) }
+    ensures range { IfSome result (IsFrom 0 63) }
+    ensures none { IfNone result (WritesNoneFrom 0 63 word.now) }
+{
+    Some(read_from(word, 0, 63)? as u32)
 }
 
 // The number from `least` to `most` that a word writes.

@@ -2,12 +2,13 @@
 ghost use Rattle.std.specs.Prelude.{◌≡◌, ◌≢◌, [], ◌∷◌, length, IfSome, IfNone};
 ghost use Rattle.command_words.specs.Grammar.{NamesNoStage, Say, SayNothing, stage_word, texts_of};
 
-use crate::numbers::{read_count, read_length, read_rate, read_seed};
+use crate::numbers::{read_count, read_length, read_rate, read_seed, read_start, read_step};
 use crate::{Command, Stage};
 
 /// The command that the words say, without the program's name (own): None exactly where they say
 /// none. RATE is a number of megabits a second, 6 to 54 by the table of the rates, SEED is from 1 to
-/// 127, LENGTH from 1 to 4095 and COUNT from 1 to 1000, all in decimal digits with no sign and no leading zero; SCRIPT is any
+/// 127, LENGTH from 1 to 4095, COUNT from 1 to 1000, START from 0 to
+/// 16777215 and STEP from 0 to 63, all in decimal digits with no sign and no leading zero; SCRIPT is any
 /// one word, which `read_request` reads, and so is TAPS; a stage is `scrambled`, `coded`, `kept`, `interleaved`,
 /// `points`, `header` or `samples`. Takes no memory.
 pub fn read_words(words: &Vec<String>) -> Option<Command>
@@ -84,6 +85,10 @@ fn read_three(name: &str, a: &str, b: &str) -> Option<Command>
         "send" => Some(Command::Send {
             rate: read_rate(a)?,
             seed: read_seed(b)?,
+        }),
+        "rotate" => Some(Command::Rotate {
+            start: read_start(a)?,
+            step: read_step(b)?,
         }),
         _ => None,
     }

@@ -54,8 +54,26 @@ pub fn decide(modulation: Modulation, z: Cx, m: i64) -> [u8; 6]
     ensures decided { result ≡ decided modulation z m }
     ensures bits { AreBits result }
 {
-    let i = place_reached(modulation, z.re, m);
-    let q = place_reached(modulation, z.im, m);
+    decide_wide(
+        modulation,
+        i128::from(z.re),
+        i128::from(z.im),
+        i128::from(m),
+    )
+}
+
+/// The same of parts and a square that need 128 bits: the parts of the point are at most 2^112 in size, and `m` is from 0
+/// to 2^112 (own).
+pub fn decide_wide(modulation: Modulation, re: i128, im: i128, m: i128) -> [u8; 6]
+    requires re { unsigned_abs re ≤ 2 ^ 112 }
+    requires im { unsigned_abs im ≤ 2 ^ 112 }
+    requires m_least { pos 0 ≤ℤ m }
+    requires m_most { m ≤ℤ pos (2 ^ 112) }
+    ensures decided { result ≡ decided modulation (record { re = re; im = im }) m }
+    ensures bits { AreBits result }
+{
+    let i = place_reached(modulation, re, m);
+    let q = place_reached(modulation, im, m);
     match modulation {
         Modulation::Bpsk => [gray_bit(i, 0), 0, 0, 0, 0, 0],
         Modulation::Qpsk => [gray_bit(i, 0), gray_bit(q, 0), 0, 0, 0, 0],
@@ -113,9 +131,9 @@ fn gray_bit(place: u8, bit: u32) -> u8
 }
 
 // How many thresholds an axis lies above: the place of its level.
-fn place_reached(modulation: Modulation, part: i64, m: i64) -> u8
-    requires part { unsigned_abs part ≤ 2 ^ 46 }
-    requires m { unsigned_abs m ≤ 2 ^ 47 }
+fn place_reached(modulation: Modulation, part: i128, m: i128) -> u8
+    requires part { unsigned_abs part ≤ 2 ^ 112 }
+    requires m { unsigned_abs m ≤ 2 ^ 112 }
     ensures place { result ≡ thresholds_below modulation part m }
     ensures within { result ≤ length (thresholds modulation) }
 {
@@ -129,13 +147,13 @@ fn place_reached(modulation: Modulation, part: i64, m: i64) -> u8
 }
 
 // Whether an axis lies above a threshold, where the square of the channel's size is m.
-fn lies_above(part: i64, m: i64, threshold: i64) -> bool
-    requires part { unsigned_abs part ≤ 2 ^ 46 }
-    requires m { unsigned_abs m ≤ 2 ^ 47 }
+fn lies_above(part: i128, m: i128, threshold: i64) -> bool
+    requires part { unsigned_abs part ≤ 2 ^ 112 }
+    requires m { unsigned_abs m ≤ 2 ^ 112 }
     requires threshold { unsigned_abs threshold ≤ 2 ^ 10 }
     ensures { result ≡ lies_above part m threshold }
 {
-    1296 * i128::from(part) >= i128::from(threshold) * i128::from(m)
+    1296 * part >= i128::from(threshold) * m
 }
 
 // The highest level. The lowest is its negative, and neighbours are 2 apart.

@@ -266,6 +266,11 @@ fn refuses_words(rt: HostRuntime) -> Result<(), Fail> {
         "noise lead 1",
         "send-list 1",
         "sendlist",
+        "rotate 0 64",
+        "rotate 01 0",
+        "rotate 0 00",
+        "rotate 16777216 0",
+        "rotate 0",
         "drill 0",
         "drill 1001",
         "drill 050",
@@ -415,6 +420,25 @@ fn echoes_of_captures(rt: HostRuntime) -> Result<(), Fail> {
     ];
     for (taps, input, out) in rows {
         check_text(&rt, rt.alloc(), "echo", &answers(taps, input, out))?;
+    }
+    Ok(())
+}
+
+// A quarter turn of the sample behind a preamble, and the last start.
+#[test]
+fn turns_of_captures(rt: HostRuntime) -> Result<(), Fail> {
+    let mut capture = [0; 1284];
+    capture[1280] = 100;
+    capture[1282] = 7;
+    let turned = [(0, &[0; 1280][..]), (1280, &[0xF9, 0xFF, 100, 0])];
+    let rows: [(&str, &[u8], Out); 4] = [
+        ("rotate 0 5", b"", Out::Whole(b"")),
+        ("rotate 0 16", &capture, Out::Parts(1284, &turned)),
+        ("rotate 1 16", &capture, Out::Whole(&capture)),
+        ("rotate 16777215 63", b"12345678", Out::Whole(b"12345678")),
+    ];
+    for (line, input, out) in rows {
+        check(&rt, rt.alloc(), &answers(line, input, out))?;
     }
     Ok(())
 }

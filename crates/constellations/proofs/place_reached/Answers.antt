@@ -1,5 +1,6 @@
 use Rattle.std.proofs.Common.{◌≡◌, ◌+◌, cond, get_or, take, pos, true, false, sym, ap, ◌∙◌, arith, rules}
 use Rattle.std.proofs.lemmas.Int.{to_z-of_z}
+use mir.Syntax.{w128}
 use Rattle.std.proofs.Common.{to_z, of_z, w64, SFits}
 use Rattle.constellations.specs.Decisions.{lies_above, thresholds_below}
 use Rattle.constellations.proofs.Counting.{count-more}
@@ -10,7 +11,7 @@ pub loop-threshold-preserved : goal.loop-threshold-preserved
 loop-threshold-preserved c =
     let xs = c.thresholds-threshold-items.result.now in
     let i = c.loop-threshold.threshold-index in
-    let p = lies_above (to_z w64 (of_z w64 c.args.part)) (to_z w64 (of_z w64 c.args.m)) in
+    let p = lies_above (to_z w128 (of_z w128 c.args.part)) (to_z w128 (of_z w128 c.args.m)) in
     let fits : SFits w64 (get_or xs i (pos 0)) = search rules in
     let answer : p (get_or xs i (pos 0)) ≡ c.lies_above.result = ap p (sym (to_z-of_z w64 _ fits)) ∙ sym c.lies_above.ensures in
     let step : c.if-lies_above.above ≡ c.loop-threshold.above + cond (p (get_or xs i (pos 0))) 1 0 =
@@ -27,7 +28,7 @@ pub returns-clause-place : goal.returns-clause-place
 unfolding thresholds_below
 returns-clause-place c =
     let xs = c.thresholds-threshold-items.result.now in
-    let part : to_z w64 (of_z w64 c.args.part) ≡ c.args.part = to_z-of_z w64 c.args.part c.ranges.part in
-    let m : to_z w64 (of_z w64 c.args.m) ≡ c.args.m = to_z-of_z w64 c.args.m c.ranges.m in
+    let part : to_z w128 (of_z w128 c.args.part) ≡ c.args.part = to_z-of_z w128 c.args.part c.ranges.part in
+    let m : to_z w128 (of_z w128 c.args.m) ≡ c.args.m = to_z-of_z w128 c.args.m c.ranges.m in
     let whole : take c.loop-threshold.threshold-index xs ≡ xs = search rules in
     rw (part, m, whole, c.thresholds-threshold-items.ensures) at c.loop-threshold.invariant.so_far

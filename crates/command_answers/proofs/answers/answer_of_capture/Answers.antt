@@ -16,6 +16,11 @@ returns-in_ok-apply-in-Echo-clause-ok c =
     let back = samples_back c.args.samples.items c.requires.samples in
     rw (c.in-Echo.is, back) (ap (λ list. Writes (bytes_of_samples list)) (c.in_ok-apply-in-Echo.ensures.echo ∙ ap (echo_of c.in-Echo.taps) c.deref.ensures.value))
 
+pub returns-in-Rotate-clause-ok : goal.returns-in-Rotate-clause-ok
+returns-in-Rotate-clause-ok c =
+    let back = samples_back c.args.samples.items c.requires.samples in
+    rw (c.in-Rotate.is, back) (ap (λ list. Writes (bytes_of_samples list)) c.turned.ensures)
+
 pub returns-in_ok-edges_text-in-Inspect-clause-ok : goal.returns-in_ok-edges_text-in-Inspect-clause-ok
 returns-in_ok-edges_text-in-Inspect-clause-ok c =
     let back = samples_back c.args.samples.items c.requires.samples in

@@ -1,0 +1,148 @@
+//! Decisions of a symbol that is turned back.
+ghost use Rattle.std.specs.Prelude.{◌≡◌, ℕ, slice_index, length, take, ◌+◌, ◌^◌, ◌<◌, ◌≤◌, ◌≤ℤ◌, ◌*ℤ◌, pos, unsigned_abs};
+ghost use Rattle.bit_lists.specs.Bits.{AreBits};
+ghost use Rattle.carrier_equaliser.specs.Decided.{decided_at, decided_over};
+ghost use Rattle.fixed_complex.specs.PairLists.{PairsWithin};
+ghost use Rattle.fixed_complex.specs.Pairs.{IsWithin, conjugate, multiple, times};
+ghost use Rattle.integer_laws.specs.Size.{sum_of_squares};
+ghost use Rattle.pilot_turns.specs.Turned.{interleaved_turned, phase_bound_of, turned_carriers, turned_channels};
+ghost use Rattle.rate_table.specs.Table.{row_of};
+
+use carrier_bins::{bin, data_carrier};
+use carrier_equaliser::Estimate;
+use constellations::decide_wide;
+use constellations::laws::carriers_of_data;
+use fixed_complex::{Cx, mul};
+use rate_table::{Modulation, Rate};
+
+/// How far samples may be from the waveform of a frame with turns so that it is read: 20 at 6 and 9 Mb/s, 14 at 12 and 18,
+/// 6 at 24 and 36, 3 at 48 and 54 (own). Takes no memory.
+pub fn phase_bound(rate: Rate) -> u32
+    ensures { result ≡ phase_bound_of (row_of rate).modulation }
+{
+    match rate.modulation() {
+        Modulation::Bpsk => 20,
+        Modulation::Qpsk => 14,
+        Modulation::Qam16 => 6,
+        Modulation::Qam64 => 3,
+    }
+}
+
+/// The decisions of a symbol that is turned back by `turn`, over 16384: in interleaved order, with 0 in the entries past
+/// N_CBPS. For each data number they are those of 16384 times what was received on its carrier, over the channel times the
+/// turn (own). Components of `symbol` are at most 2^22 in size, those of `turn` at most 32768. Takes no memory.
+pub fn turned_decisions(
+    estimate: &Estimate,
+    rate: Rate,
+    symbol: &[Cx; 64],
+    turn: Cx,
+    out: &mut [u8; 288],
+)
+    requires symbol { PairsWithin (2 ^ 22) symbol.now }
+    requires turn { IsWithin (2 ^ 15) turn }
+    ensures list { take (row_of rate).coded_bits out.new
+        ≡ interleaved_turned rate turn estimate.now symbol.now }
+    ensures others { (k : ℕ) → (row_of rate).coded_bits ≤ k → slice_index out.new k ≡ 0 }
+    ensures bits { AreBits out.new }
+{
+    let width = rate.bits_per_carrier();
+    *out = [0; 288];
+    for number in 0..48 {
+        let bits = decided_number(estimate, rate, symbol, turn, number);
+        put(out, number * width, &bits[..width]);
+    }
+}
+
+// Puts the bits of a data number at a place.
+fn put(out: &mut [u8; 288], at: usize, bits: &[u8])
+    requires room { at + length bits.now ≤ 288 }
+    requires bits { AreBits bits.now }
+    requires out { AreBits out.old }
+    ensures here { (j : ℕ) → j < length bits.now
+        → slice_index out.new (at + j) ≡ slice_index bits.now j }
+    ensures before { (k : ℕ) → k < at → slice_index out.new k ≡ slice_index out.old k }
+    ensures behind { (k : ℕ) → at + length bits.now ≤ k
+        → slice_index out.new k ≡ slice_index out.old k }
+    ensures bits { AreBits out.new }
+{
+    out[at..at + bits.len()].copy_from_slice(bits);
+}
+
+// The bits decided of a data number, with zeros behind them.
+fn decided_number(
+    estimate: &Estimate,
+    rate: Rate,
+    symbol: &[Cx; 64],
+    turn: Cx,
+    number: usize,
+) -> [u8; 6]
+    requires symbol { PairsWithin (2 ^ 22) symbol.now }
+    requires turn { IsWithin (2 ^ 15) turn }
+    requires number { number < 48 }
+    ensures value { result
+        ≡ decided_at rate (turned_channels turn estimate.now) (turned_carriers symbol.now) number }
+    ensures bits { AreBits result }
+{
+    carriers_of_data();
+    let carrier = data_carrier(number);
+    decided(rate, mul(estimate.at(carrier), turn), symbol[bin(carrier)])
+}
+
+// The bits decided of a received carrier over a channel with its turn, with zeros behind them.
+fn decided(rate: Rate, channel: Cx, carrier: Cx) -> [u8; 6]
+    requires channel { IsWithin (2 ^ 39) channel }
+    requires carrier { IsWithin (2 ^ 22) carrier }
+    ensures value { result ≡ decided_over rate channel (multiple (pos 16384) carrier) }
+    ensures bits { AreBits result }
+{
+    let back = turned_back(carrier, channel);
+    decide_wide(
+        rate.modulation(),
+        16384 * i128::from(back.re),
+        16384 * i128::from(back.im),
+        size_squared(channel),
+    )
+}
+
+// A received carrier times the conjugate of the channel there.
+fn turned_back(carrier: Cx, channel: Cx) -> Cx
+    requires carrier { IsWithin (2 ^ 22) carrier }
+    requires channel { IsWithin (2 ^ 39) channel }
+    ensures value { result ≡ times carrier (conjugate channel) }
+    ensures within { IsWithin (2 ^ 62) result }
+{
+    Cx {
+        re: product(carrier.re, channel.re) + product(carrier.im, channel.im),
+        im: product(carrier.im, channel.re) - product(carrier.re, channel.im),
+    }
+}
+
+// A product that fits with another one beside it.
+fn product(carrier: i64, channel: i64) -> i64
+    requires carrier { unsigned_abs carrier ≤ 2 ^ 22 }
+    requires channel { unsigned_abs channel ≤ 2 ^ 39 }
+    ensures value { result ≡ carrier *ℤ channel }
+    ensures within { unsigned_abs result ≤ 2 ^ 61 }
+{
+    carrier * channel
+}
+
+// The square of a pair's size.
+fn size_squared(z: Cx) -> i128
+    requires { IsWithin (2 ^ 39) z }
+    ensures value { result ≡ sum_of_squares z.re z.im }
+    ensures least { pos 0 ≤ℤ result }
+    ensures most { result ≤ℤ pos (2 ^ 79) }
+{
+    square(z.re) + square(z.im)
+}
+
+// The square of a number.
+fn square(part: i64) -> i128
+    requires { unsigned_abs part ≤ 2 ^ 39 }
+    ensures value { result ≡ part *ℤ part }
+    ensures least { pos 0 ≤ℤ result }
+    ensures most { result ≤ℤ pos (2 ^ 78) }
+{
+    i128::from(part) * i128::from(part)
+}
