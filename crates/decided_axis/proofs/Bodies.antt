@@ -23,7 +23,7 @@ has_sign : (k : ℕ) → k < 48 → eqb (unsigned_abs (long_sign_of (carrier_in 
 unfolding bin_of data_carrier_of sign_at
 has_sign k lt = agree_below_at (λ k. eqb (unsigned_abs (long_sign_of (carrier_in (data_bin k)))) 1) (λ _. true) 48 k refl lt
 
-sign_squared : (k : ℕ) → k < 48 → long_sign_of (carrier_in (data_bin k)) *ℤ long_sign_of (carrier_in (data_bin k)) ≡ pos 1
+pub sign_squared : (k : ℕ) → k < 48 → long_sign_of (carrier_in (data_bin k)) *ℤ long_sign_of (carrier_in (data_bin k)) ≡ pos 1
 sign_squared k lt = square_is (long_sign_of (carrier_in (data_bin k))) ∙ ap (λ n. pos (n * n)) (eqb-true _ _ (has_sign k lt))
 
 -- ---- the estimate

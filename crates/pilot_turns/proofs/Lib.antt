@@ -1,3 +1,3 @@
-mod Parts
-mod Signs
+pub mod Parts
+pub mod Signs
 mod Sums

@@ -13,27 +13,27 @@ as_it_is z small = omega (arith, ints)
 
 pub overflow_sub-result : goal.overflow_sub-result
 overflow_sub-result c =
-    let small : unsigned_abs c.polarity.result ≤ 1 = rw c.polarity.ensures (polarity_size c.args.n) in
+    let small : unsigned_abs c.polarity.result ≤ 1 = rw c.polarity.ensures (polarity_size _) in
     omega (arith, ints)
 
 pub returns-then-k-eq3-clause-sign : goal.returns-then-k-eq3-clause-sign
 returns-then-k-eq3-clause-sign c =
-    let small : unsigned_abs c.polarity.result ≤ 1 = rw c.polarity.ensures (polarity_size c.args.n) in
+    let small : unsigned_abs c.polarity.result ≤ 1 = rw c.polarity.ensures (polarity_size _) in
     let last : c.args.k ≡ 3 = c.if-k-eq3.true in
     negation c.polarity.result small ∙ ap neg_ℤ c.polarity.ensures ∙ sign_last c.args.n ∙ ap (sign_of_pilot c.args.n) (sym last)
 
 pub returns-then-k-eq3-clause-within : goal.returns-then-k-eq3-clause-within
 returns-then-k-eq3-clause-within c =
-    let small : unsigned_abs c.polarity.result ≤ 1 = rw c.polarity.ensures (polarity_size c.args.n) in
+    let small : unsigned_abs c.polarity.result ≤ 1 = rw c.polarity.ensures (polarity_size _) in
     omega (arith, ints)
 
 pub returns-else-k-eq3-clause-sign : goal.returns-else-k-eq3-clause-sign
 returns-else-k-eq3-clause-sign c =
-    let small : unsigned_abs c.polarity-else-k-eq3.result ≤ 1 = rw c.polarity-else-k-eq3.ensures (polarity_size c.args.n) in
+    let small : unsigned_abs c.polarity-else-k-eq3.result ≤ 1 = rw c.polarity-else-k-eq3.ensures (polarity_size _) in
     let first : c.args.k < 3 = omega (arith, c.requires, c.if-k-eq3.false) in
     as_it_is c.polarity-else-k-eq3.result small ∙ c.polarity-else-k-eq3.ensures ∙ sign_first c.args.n c.args.k first
 
 pub returns-else-k-eq3-clause-within : goal.returns-else-k-eq3-clause-within
 returns-else-k-eq3-clause-within c =
-    let small : unsigned_abs c.polarity-else-k-eq3.result ≤ 1 = rw c.polarity-else-k-eq3.ensures (polarity_size c.args.n) in
+    let small : unsigned_abs c.polarity-else-k-eq3.result ≤ 1 = rw c.polarity-else-k-eq3.ensures (polarity_size _) in
     omega (arith, ints)
