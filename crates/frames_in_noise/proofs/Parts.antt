@@ -45,7 +45,7 @@ module _ (frame : SentFrame) where
   short = short_times (plain_body (by_bin short_carrier))
 
   -- a body of the long training field: 64 times behind its guard, or 64 more
-  long_at : (from t : ℕ) → 192 ≤ from → from ≤ 256 → from % 64 ≡ 0 → t < 64 → entry (plain_of frame) (from + t) ≡ plain_body (by_bin long_carrier) t
+  pub long_at : (from t : ℕ) → 192 ≤ from → from ≤ 256 → from % 64 ≡ 0 → t < 64 → entry (plain_of frame) (from + t) ≡ plain_body (by_bin long_carrier) t
   long_at from t least most whole inside =
       let count : length short ≡ 160 = length-map-range_with_len (λ time. plain_body (by_bin short_carrier) (time % 64)) 0 160 in
       let time = (from - 160) + t in
@@ -58,7 +58,7 @@ module _ (frame : SentFrame) where
       ∙ ap (plain_body (by_bin long_carrier)) back
 
   -- the body of symbol n
-  symbol_at : (n t : ℕ) → n ≤ symbols → t < 64 → entry (plain_of frame) (336 + 80 * n + t) ≡ plain_body (frame_bin frame.rate frame.seed frame.psdu n) t
+  pub symbol_at : (n t : ℕ) → n ≤ symbols → t < 64 → entry (plain_of frame) (336 + 80 * n + t) ≡ plain_body (frame_bin frame.rate frame.seed frame.psdu n) t
   symbol_at n t sent inside =
       let place : 336 + 80 * n + t ≡ 320 + 80 * n + (16 + t) = omega arith in
       let back : ((16 + t) + 48) % 64 ≡ t = omega arith in

@@ -32,10 +32,14 @@ plain_size x sizes each n (suc k) all =
     let last = size-times (sizes k) 1048577 (x k) (turn_at (k * n)) (each k (omega arith)) (turn-size (k * n)) in
     wider (total sizes k * 1048577 + sizes k * 1048577) (total sizes (suc k) * 1048577) _ (omega (arith, more)) (size-plus (total sizes k * 1048577) (sizes k * 1048577) _ _ before last)
 
--- so no part of a plain sum over carriers that fit is larger than 25056 and a 32nd, times 2^21
+-- so a plain sum over carriers that fit is at most 25056 and a 32nd, times 2^21, in size
+pub plain_of_size : (xs : List Cx) → FitASample xs → (n : ℕ) → IsOfSize (50112 * 1048577) (plain_body (entry xs) n)
+plain_of_size xs fits n =
+    wider (total fits.sizes 64 * 1048577) (50112 * 1048577) _ (omega (arith, fits.total)) (plain_size (entry xs) fits.sizes fits.each n 64 (omega arith))
+
+-- and no part of it is larger
 pub plain_within : (xs : List Cx) → FitASample xs → (n : ℕ) → IsWithin (50112 * 1048577) (plain_body (entry xs) n)
-plain_within xs fits n =
-    within-size (50112 * 1048577) _ (wider (total fits.sizes 64 * 1048577) (50112 * 1048577) _ (omega (arith, fits.total)) (plain_size (entry xs) fits.sizes fits.each n 64 (omega arith)))
+plain_within xs fits n = within-size (50112 * 1048577) _ (plain_of_size xs fits n)
 
 -- one component of a sent sample
 sent_part_within : (q w : ℤ) → unsigned_abs (pos 2097152 *ℤ q -ℤ w) ≤ 2097152 → unsigned_abs w ≤ 52546290624 → unsigned_abs q ≤ 25057
