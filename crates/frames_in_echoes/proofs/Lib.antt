@@ -1,3 +1,4 @@
 pub mod Parts
 pub mod Sent
 pub mod Frames
+pub mod Captures

@@ -1,5 +1,5 @@
 -- What the laws of frames in echoes state (own).
-use Rattle.std.specs.Prelude.{◌≡◌, ℕ, ◌<◌, ◌≤◌, List, drop, length, Ok}
+use Rattle.std.specs.Prelude.{◌≡◌, ℕ, ◌+◌, ◌*◌, ◌<◌, ◌≤◌, List, drop, length, All, Ok}
 use Rattle.fixed_complex.specs.declared.Cx.{Cx}
 use Rattle.fixed_complex.specs.declared.Sample.{Sample}
 use Rattle.fixed_complex.specs.PairLists.{entry}
@@ -16,7 +16,8 @@ use Rattle.echo_taps.specs.Taps.{IsEcho}
 use Rattle.echo_channels.specs.Laws.{IsNearSent}
 use Rattle.symbols_in_echoes.specs.Laws.{echo_bound_of}
 use Rattle.frame_fields.specs.Frames.{frame_bin}
-use Rattle.frame_lists.specs.Near.{SentFrame}
+use Rattle.frame_lists.specs.Items.{Item, frames_from, samples_of_items}
+use Rattle.frame_lists.specs.Near.{AreNear, SentFrame}
 use Rattle.frame_reader.specs.Decisions.{body_of, plain_decisions}
 use Rattle.frame_reader.specs.Frames.{HasField, SaysHeader}
 use Rattle.exact_decisions.specs.Laws.{sent_header}
@@ -74,16 +75,48 @@ EchoIsRead =
     (taps : List Cx) (frame : SentFrame) → IsEcho taps → IsFrame frame
     → IsReadFrom (echo_of taps (sent_of frame)) frame
 
+-- samples begin, from a frame's start on, near the echoed frame
+abbrev pub StartsNearEchoed : ℕ → List Cx → List Sample → SentFrame → Type 0
+StartsNearEchoed bound taps capture frame = BeginsNearEchoed bound taps (drop frame.start capture) frame
+
+-- what is read at a frame's start, by the plain decisions, is the frame
+abbrev pub IsThere : List Sample → SentFrame → Type 0
+IsThere capture frame = IsFrameAt plain_decisions capture frame.start (Ok (heard_of frame))
+
 -- so the frame at the start of an echoed frame is the one that was sent
 abbrev pub EchoedFrameIsThere : Type 0
 EchoedFrameIsThere =
     (bound : ℕ) (taps : List Cx) (capture : List Sample) (frame : SentFrame) → IsEcho taps
     → IsFrame frame → bound ≤ echo_bound_of frame.rate
-    → BeginsNearEchoed bound taps (drop frame.start capture) frame
-    → IsFrameAt plain_decisions capture frame.start (Ok (heard_of frame))
+    → StartsNearEchoed bound taps capture frame → IsThere capture frame
 
 -- and so is the frame at the start of the echo of a frame's sent samples
 abbrev pub EchoIsThere : Type 0
 EchoIsThere =
     (taps : List Cx) (frame : SentFrame) → IsEcho taps → IsFrame frame → frame.start ≡ 0
     → IsFrameAt plain_decisions (echo_of taps (sent_of frame)) 0 (Ok (heard_of frame))
+
+-- the echo of a capture that is within a bound of frames in silence begins, at the start of each, near the echoed frame,
+-- within 1.25 times the bound, and half
+abbrev pub EchoOfCaptureIsNear : Type 0
+EchoOfCaptureIsNear =
+    (taps : List Cx) (bound louder : ℕ) (capture : List Sample) (frames : List SentFrame)
+    → IsEcho taps → bound ≤ 1000 → 1280 * bound + 512 ≤ 1024 * louder
+    → AreNear (λ _. bound) bound capture frames
+    → All (StartsNearEchoed louder taps (echo_of taps capture)) frames
+
+-- where that is within half the noise bound of the rate of each, the frame at the start of each is the one that was sent
+abbrev pub EchoOfCaptureIsThere : Type 0
+EchoOfCaptureIsThere =
+    (taps : List Cx) (bound : ℕ) (capture : List Sample) (frames : List SentFrame) → IsEcho taps
+    → All IsFrame frames
+    → All (λ (frame : SentFrame). 1280 * bound + 512 ≤ 1024 * echo_bound_of frame.rate) frames
+    → AreNear (λ _. bound) bound capture frames
+    → All (IsThere (echo_of taps capture)) frames
+
+-- so it is in the echo of the samples of a list in which the gaps but the first are at least 16
+abbrev pub EchoOfListIsThere : Type 0
+EchoOfListIsThere =
+    (taps : List Cx) (items : List Item) → IsEcho taps → 0 < length items
+    → All (λ (item : Item). 16 ≤ item.gap) (drop 1 items) → All IsFrame (frames_from 0 items)
+    → All (IsThere (echo_of taps (samples_of_items items))) (frames_from 0 items)
