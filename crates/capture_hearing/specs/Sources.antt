@@ -2,7 +2,7 @@
 use Rattle.std.specs.Prelude.{ℕ, List, Option}
 use Rattle.modem_ports.specs.Told.{Gives}
 use Rattle.report_lines.specs.declared.Refusal.{Refusal}
-use Rattle.report_lines.specs.declared.Refusal.TheVariants.{Words, EmptyPsdu, LongPsdu, TornCapture, LongCapture, BadBit, BitCount, NoFrame, CutFrame, ReadFault, WriteFault, NoMemory, BadScript, BadList, LongList, BadCost, CostCount, BadTaps}
+use Rattle.report_lines.specs.declared.Refusal.TheVariants.{Words, EmptyPsdu, LongPsdu, TornCapture, LongCapture, BadBit, BitCount, NoFrame, CutFrame, ReadFault, WriteFault, NoMemory, BadScript, BadList, LongList, BadCost, CostCount, CutAt, BadHeader, BadTaps}
 use Rattle.capture_hearing.specs.Hearing.{HasHeard, HearingView}
 
 -- a hearing heard just the bytes that a source gave
@@ -28,4 +28,6 @@ IsOfReceiving (BadList at) = ⊥
 IsOfReceiving (LongList samples) = ⊥
 IsOfReceiving (BadCost at) = ⊥
 IsOfReceiving (CostCount have need) = ⊥
+IsOfReceiving (CutAt start have need) = ⊥
+IsOfReceiving (BadHeader start) = ⊥
 IsOfReceiving (BadTaps at) = ⊥

@@ -34,7 +34,7 @@ SentAreWithin = (rate : Rate) (seed : ℕ) (psdu : List ℕ) → SamplesWithin 2
 fits : (z : ℤ) → unsigned_abs z ≤ 25057 → FitsSigned w16 z
 fits z h = fits_signed_from_abs w16 z (omega (arith, h))
 
-are_samples : (samples : List Sample) → SamplesWithin 25057 samples → AreSamples samples
+pub are_samples : (samples : List Sample) → SamplesWithin 25057 samples → AreSamples samples
 are_samples samples h =
     All-from_get_or IsSample samples (record { i = pos 0; q = pos 0 }) (λ k l. let within = h.each k l in record { i = fits _ within.i; q = fits _ within.q })
 

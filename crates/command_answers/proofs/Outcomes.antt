@@ -10,6 +10,11 @@ use Rattle.frame_findings.specs.declared.Heard.{Heard}
 use Rattle.frame_findings.specs.Laws.{OneFindings, OneReports, SomeFindings, SomeReports}
 use Rattle.command_answers.specs.Drilling.{HasDrilled}
 use Rattle.command_answers.specs.Receiving.{HasReceived, HasReports, outcome_of}
+use Rattle.command_answers.specs.Starting.{HasFrameAt, outcome_at}
+use Rattle.frame_reader.specs.Decisions.{plain_decisions}
+use Rattle.frame_starts.specs.declared.AtFault.{AtFault}
+use Rattle.frame_starts.specs.declared.AtFault.TheVariants as fault
+use Rattle.frame_starts.specs.Laws.{OneFrameAt, SomeFrameAt}
 use Rattle.frame_drills.proofs.Back.{one_summary, some_summary}
 use Rattle.frame_drills.specs.Summaries.{text_of_summary}
 use Rattle.frame_fields.specs.Frames.{sent_bytes}
@@ -22,7 +27,7 @@ use Rattle.report_lines.specs.Refusals.{IsDecided, answering, asking, status_of,
 use Rattle.std.specs.Result.{IfErr, IfOk, result_err}
 use Rattle.command_words.proofs.Asked.{asked_or_refused, nothing_asked, one_refusal, one_request}
 use Rattle.command_words.specs.declared.Request.{Request}
-use Rattle.command_words.specs.declared.Request.TheVariants.{Bits, Decode, DecodeSoft, Send, SendList, Receive, Noise, Echo, Rotate, Inspect, Drill, Show}
+use Rattle.command_words.specs.declared.Request.TheVariants.{Bits, Decode, DecodeSoft, Send, SendList, Receive, ReceiveAt, Noise, Echo, Rotate, Inspect, Drill, Show}
 use Rattle.command_words.specs.declared.Stage.TheVariants.{Kept}
 use Rattle.command_words.specs.Asking.{AreRefusedFor, AskFor, command_of}
 use Rattle.frame_stages.specs.Stages.{stage_text_of}
@@ -57,6 +62,14 @@ received_one one capture a b (heard, cut, found, is) (heard', cut', found', is')
     let same = one capture heard heard' cut cut' found found' in
     is ∙ ap (λ frames. outcome_of (received_of frames cut)) same.0 ∙ ap (λ end. outcome_of (received_of heard' end)) same.1 ∙ sym is'
 
+-- what the frame at a start comes to
+frame_some : SomeFrameAt → (start : ℕ) (capture : List Sample) → AtLeastOne (HasFrameAt plain_decisions start capture)
+frame_some some start capture = let answer = some plain_decisions capture start in (outcome_at answer.0, (answer.0, answer.1, refl))
+
+frame_one : OneFrameAt → (start : ℕ) (capture : List Sample) → AtMostOne (HasFrameAt plain_decisions start capture)
+frame_one one start capture a b (answer, frame, is) (answer', frame', is') =
+    is ∙ ap outcome_at (one plain_decisions capture start answer answer' frame frame') ∙ sym is'
+
 -- what a drill comes to
 drill_some : (count : ℕ) → AtLeastOne (Answers (HasDrilled count))
 drill_some count =
@@ -73,6 +86,7 @@ pub record SomeFound : Type 0 where
   pub soft : SomeSoftField
   pub reports : SomeReports
   pub findings : SomeFindings
+  pub frame : SomeFrameAt
 
 -- .. and is one
 pub record OneFound : Type 0 where
@@ -80,6 +94,7 @@ pub record OneFound : Type 0 where
   pub soft : OneSoftField
   pub reports : OneReports
   pub findings : OneFindings
+  pub frame : OneFrameAt
 
 answer_some : SomeFound → (request : Request) (read : List ℕ) → AtLeastOne (AnswerOf request read)
 answer_some some (Bits rate seed) read = (Writes (stage_text_of Kept rate seed read), refl)
@@ -91,6 +106,7 @@ answer_some some SendList read = list_some read
 answer_some some (Echo pairs) read = (Writes (echoed_bytes pairs read), refl)
 answer_some some (Rotate start step) read = (Writes (rotated_bytes start step read), refl)
 answer_some some Receive read = received_some some.findings (samples_in read)
+answer_some some (ReceiveAt start) read = frame_some some.frame start (samples_in read)
 answer_some some Inspect read = reports_some some.reports (samples_in read)
 answer_some some (Drill count) read = drill_some count
 answer_some some (Show stage rate seed) read = (Writes (stage_text_of stage rate seed read), refl)
@@ -105,6 +121,7 @@ answer_one one SendList read a b has has' = list_one read a b has has'
 answer_one one (Echo pairs) read a b is is' = is ∙ sym is'
 answer_one one (Rotate start step) read a b is is' = is ∙ sym is'
 answer_one one Receive read a b has has' = received_one one.findings (samples_in read) a b has has'
+answer_one one (ReceiveAt start) read a b has has' = frame_one one.frame start (samples_in read) a b has has'
 answer_one one Inspect read a b has has' = reports_one one.reports (samples_in read) a b has has'
 answer_one one (Drill count) read a b has has' = drill_one count a b has has'
 answer_one one (Show stage rate seed) read a b is is' = is ∙ sym is'
@@ -119,6 +136,12 @@ received_is_no_word [] None = λ asks. cc
 received_is_no_word [] (Some cut) = λ asks. cc
 received_is_no_word (first ∷ heard) cut = tt
 
+frame_is_no_word : (answer : Result Heard AtFault) → IsNoWord (outcome_at answer)
+frame_is_no_word (Ok heard) = tt
+frame_is_no_word (Err (fault.CutAt start have need)) = λ asks. cc
+frame_is_no_word (Err (fault.BadHeader start)) = λ asks. cc
+frame_is_no_word (Err (fault.NoMemory want)) = λ asks. cc
+
 answer_is_no_word : (request : Request) (read : List ℕ) → AllAre IsNoWord (AnswerOf request read)
 answer_is_no_word (Bits rate seed) read outcome is = rw is tt
 answer_is_no_word (Decode rate octets) read outcome has = decode_all IsNoWord rate octets read (λ refusal at asks. cc) (λ answer. tt) outcome has
@@ -129,6 +152,7 @@ answer_is_no_word SendList read outcome has = list_all IsNoWord read (λ refusal
 answer_is_no_word (Echo pairs) read outcome is = rw is tt
 answer_is_no_word (Rotate start step) read outcome is = rw is tt
 answer_is_no_word Receive read outcome (heard, cut, found, is) = rw is (received_is_no_word heard cut)
+answer_is_no_word (ReceiveAt start) read outcome (answer, frame, is) = rw is (frame_is_no_word answer)
 answer_is_no_word Inspect read outcome has = answers_all IsNoWord (HasReports (samples_in read)) (λ answer. tt) outcome has
 answer_is_no_word (Drill count) read outcome has = answers_all IsNoWord (HasDrilled count) (λ answer. tt) outcome has
 answer_is_no_word (Show stage rate seed) read outcome is = rw is tt

@@ -5,6 +5,9 @@ use Rattle.list_texts.specs.declared.Entry.{Entry}
 use Rattle.send_lists.specs.Sent.{frames_of_list}
 use Rattle.command_answers.specs.Flips.{IsCheapText, IsFlippedText}
 use Rattle.command_answers.specs.InNoise.{IsCaptureInNoise, lines_of}
+use Rattle.echo_link.specs.Echoed.{EchoedFrame}
+use Rattle.command_answers.specs.Answers.{echoed_bytes}
+use Rattle.command_answers.specs.InEchoes.{IsCaptureInEchoes, IsEchoOfFrame, bytes_of_frame, line_of}
 use Rattle.command_answers.specs.InOrder.{Outcome, Writes}
 use Rattle.command_answers.specs.Listing.{IsSentList, bytes_of_list}
 use Rattle.command_answers.specs.Outcome.{HasOutcome}
@@ -32,6 +35,22 @@ abbrev pub CaptureInNoiseGivesItsFrames : Type 0
 CaptureInNoiseGivesItsFrames =
     (words : List (List ℕ)) (bytes : List ℕ) (frames : List SentFrame)
     → IsCaptureInNoise words bytes frames → HasOutcome words bytes (Writes (lines_of frames))
+
+-- the outcome of a capture with an echoed frame, which is received at its start: the line of exactly this frame is written
+abbrev pub EchoedCaptureGivesItsFrame : Type 0
+EchoedCaptureGivesItsFrame =
+    (words : List (List ℕ)) (bytes : List ℕ) (echoed : EchoedFrame)
+    → IsCaptureInEchoes words bytes echoed → HasOutcome words bytes (Writes (line_of echoed.frame))
+
+-- the outcome of `echo` on what is sent of a frame: the bytes of its echo are written; and the outcome of these, which are
+-- received at their first place: the line of this frame
+abbrev pub EchoGivesItsFrame : Type 0
+EchoGivesItsFrame =
+    (words back : List (List ℕ)) (echoed : EchoedFrame) → IsEchoOfFrame words back echoed
+    → HasOutcome words (bytes_of_frame echoed.frame)
+    (Writes (echoed_bytes echoed.taps (bytes_of_frame echoed.frame)))
+    × HasOutcome back (echoed_bytes echoed.taps (bytes_of_frame echoed.frame))
+    (Writes (line_of echoed.frame))
 
 -- the outcome of a text of costs against which the kept code of a field costs little: that field's PSDU
 -- is written

@@ -4,8 +4,10 @@ pub mod Decoding
 pub mod Listing
 pub mod Answers
 pub mod Receiving
+pub mod Starting
 pub mod Drilling
 pub mod Outcome
 pub mod Flips
 pub mod InNoise
+pub mod InEchoes
 pub mod Laws

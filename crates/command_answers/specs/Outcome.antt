@@ -2,19 +2,21 @@
 use Rattle.std.specs.Prelude.{ℕ, ◌≡◌, ◌⊎◌, List, Option, IfSome}
 use Rattle.capture_files.specs.Captures.{samples_in}
 use Rattle.frame_fields.specs.Frames.{sent_bytes}
+use Rattle.frame_reader.specs.Decisions.{plain_decisions}
 use Rattle.report_lines.specs.declared.Refusal.{Refusal}
 use Rattle.report_lines.specs.declared.Status.{Status}
 use Rattle.report_lines.specs.declared.Status.TheVariants as status
 use Rattle.report_lines.specs.Refusals.{status_of}
 use Rattle.command_words.specs.declared.Command.{Command}
 use Rattle.command_words.specs.declared.Request.{Request}
-use Rattle.command_words.specs.declared.Request.TheVariants.{Bits, Decode, DecodeSoft, Send, SendList, Receive, Noise, Echo, Rotate, Inspect, Drill, Show}
+use Rattle.command_words.specs.declared.Request.TheVariants.{Bits, Decode, DecodeSoft, Send, SendList, Receive, ReceiveAt, Noise, Echo, Rotate, Inspect, Drill, Show}
 use Rattle.command_words.specs.declared.Stage.TheVariants.{Kept}
 use Rattle.command_words.specs.Asking.{AreRefusedFor, AskFor, command_of}
 use Rattle.frame_stages.specs.Stages.{stage_text_of}
 use Rattle.command_answers.specs.Answers.{echoed_bytes, noisy_bytes, rotated_bytes}
 use Rattle.command_answers.specs.Drilling.{HasDrilled}
 use Rattle.command_answers.specs.Receiving.{HasReceived, HasReports}
+use Rattle.command_answers.specs.Starting.{HasFrameAt}
 use Rattle.command_answers.specs.Decoding.{DecodeOutcome, SoftOutcome}
 use Rattle.command_answers.specs.Listing.{ListOutcome}
 use Rattle.command_answers.specs.InOrder.{Answers, Outcome, Refuses, Writes}
@@ -31,6 +33,8 @@ AnswerOf SendList read outcome = ListOutcome read outcome
 AnswerOf (Echo pairs) read outcome = outcome ≡ Writes (echoed_bytes pairs read)
 AnswerOf (Rotate start step) read outcome = outcome ≡ Writes (rotated_bytes start step read)
 AnswerOf Receive read outcome = HasReceived (samples_in read) outcome
+AnswerOf (ReceiveAt start) read outcome =
+    HasFrameAt plain_decisions start (samples_in read) outcome
 AnswerOf Inspect read outcome = Answers (HasReports (samples_in read)) outcome
 AnswerOf (Drill count) read outcome = Answers (HasDrilled count) outcome
 AnswerOf (Show stage rate seed) read outcome = outcome ≡ Writes (stage_text_of stage rate seed read)

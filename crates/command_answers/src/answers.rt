@@ -19,6 +19,7 @@ ghost use Rattle.symbol_turns.specs.Turning.{turned_samples};
 use crate::decoding::{decoded, soft_decoded};
 use crate::listing::listed;
 use crate::reading::{Input, Reading};
+use crate::starting::frame_at;
 use capture_files::write_samples;
 use command_words::{Request, Stage};
 use finding_lines::reports_text;
@@ -97,6 +98,7 @@ fn answer_of_bytes(
         Request::Noise { .. }
         | Request::Echo { .. }
         | Request::Rotate { .. }
+        | Request::ReceiveAt { .. }
         | Request::Inspect
         | Request::Receive => unreachable!(),
     }
@@ -116,12 +118,15 @@ fn answer_of_capture(
     requires kept { request ≢ Request.Receive }
     ensures ok { IfOk result (λ answer.
         AnswerOf request (bytes_of_samples samples.items) (Writes (bytes_of_answer answer))) }
-    ensures refused { IfErr result (λ refusal. refusal ≡ Refusal.NoMemory) }
+    ensures refused { IfErr result (λ refusal. (refusal ≡ Refusal.NoMemory)
+        ⊎ ((step_of refusal ≡ answering)
+        × AnswerOf request (bytes_of_samples samples.items) (Refuses refusal))) }
 {
     match request {
         Request::Noise { script } => Ok(Answer::Samples(noisy_samples(&script, samples)?)),
         Request::Echo { taps } => Ok(Answer::Samples(taps.apply(alloc, &samples)?)),
         Request::Rotate { start, step } => Ok(Answer::Samples(turned(start, step, samples))),
+        Request::ReceiveAt { start } => frame_at(alloc, start, &samples, steps),
         Request::Inspect => Ok(Answer::Bytes(edges_text(alloc, &samples, steps)?)),
         _ => unreachable!(),
     }

@@ -1,8 +1,11 @@
 //! What holds of outcomes, for every input. Its functions do nothing: what each ensures is the law.
-ghost use Rattle.command_answers.specs.Laws.{CaptureInNoiseGivesItsFrames, CheapTextGivesItsPsdu, FlippedTextGivesItsPsdu, OneOutcome, SentListGivesItsFrames, SomeOutcome};
+ghost use Rattle.command_answers.specs.Laws.{CaptureInNoiseGivesItsFrames, CheapTextGivesItsPsdu, EchoGivesItsFrame, EchoedCaptureGivesItsFrame, FlippedTextGivesItsPsdu, OneOutcome, SentListGivesItsFrames, SomeOutcome};
 
+use echo_taps::laws::{places_of_an_echo, sizes_of_an_echo};
 use frame_fields::laws::{few_flips, one_field, sent_frames};
 use frame_findings::laws::{one_reception, one_report};
+use frame_starts::laws::one_frame_at;
+use frames_in_echoes::laws::{an_echoed_frame_is_read, the_echo_of_a_frame_is_read};
 use frames_in_noise::laws::{noise_is_withstood, sent_lists_are_heard};
 use soft_trellis::laws::{little_cost, one_soft_field};
 
@@ -14,6 +17,7 @@ pub fn outcome_is_one()
     one_field();
     one_report();
     one_reception();
+    one_frame_at();
     one_soft_field();
 }
 
@@ -40,6 +44,26 @@ pub fn capture_in_noise_gives_its_frames()
     ensures { CaptureInNoiseGivesItsFrames }
 {
     noise_is_withstood();
+}
+
+/// What `receive-at` is asked to write of a capture that from that start on is near a frame's echoed
+/// waveform, within half the noise bound of its rate (32, 18, 8 or 4): the line of exactly this frame
+/// (own).
+pub fn echoed_capture_gives_its_frame()
+    ensures { EchoedCaptureGivesItsFrame }
+{
+    an_echoed_frame_is_read();
+}
+
+/// What `echo` is asked to write of what `send` writes of a frame, by any taps: the bytes of its echo; and
+/// what `receive-at 0` is asked to write of these bytes: the line of exactly this frame (own).
+pub fn echo_gives_its_frame()
+    ensures { EchoGivesItsFrame }
+{
+    sent_frames();
+    sizes_of_an_echo();
+    places_of_an_echo();
+    the_echo_of_a_frame_is_read();
 }
 
 /// What `send-list` is asked to write of a list of at most 16777216 samples: the bytes of its samples; and

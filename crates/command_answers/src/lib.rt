@@ -7,6 +7,7 @@ pub mod laws;
 mod listing;
 mod reading;
 mod requests;
+mod starting;
 
 pub use answers::{Answer, write_answer};
 pub use reading::Reading;

@@ -36,6 +36,7 @@ impl Reading {
             Request::Decode { .. } | Request::DecodeSoft { .. } | Request::SendList =>
                 Reading::Bytes,
             Request::Receive
+            | Request::ReceiveAt { .. }
             | Request::Noise { .. }
             | Request::Echo { .. }
             | Request::Rotate { .. }

@@ -33,6 +33,7 @@ pub fn read_request(words: &Vec<String>) -> Result<Request, Refusal>
         Command::Echo => read_echo(words[1].as_str()),
         Command::Rotate { start, step } => Ok(Request::Rotate { start, step }),
         Command::Receive => Ok(Request::Receive),
+        Command::ReceiveAt { start } => Ok(Request::ReceiveAt { start }),
         Command::Inspect => Ok(Request::Inspect),
         Command::Drill { count } => Ok(Request::Drill { count }),
         Command::Show { stage, rate, seed } => Ok(Request::Show { stage, rate, seed }),

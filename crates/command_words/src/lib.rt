@@ -69,6 +69,10 @@ pub enum Command {
     },
     /// `receive`
     Receive,
+    /// `receive-at START`
+    ReceiveAt {
+        start: u32,
+    },
     /// `inspect`
     Inspect,
     /// `drill COUNT`
@@ -123,6 +127,10 @@ pub enum Request {
     },
     /// A line for each frame of a capture, and for the cut that it ends in.
     Receive,
+    /// The line of the frame that begins at a place of a capture.
+    ReceiveAt {
+        start: u32,
+    },
     /// A line for each edge of a capture.
     Inspect,
     /// The summary of a drill of so many frames.

@@ -58,6 +58,9 @@ fn read_two(name: &str, a: &str) -> Option<Command>
         "drill" => Some(Command::Drill {
             count: read_count(a)?,
         }),
+        "receive-at" => Some(Command::ReceiveAt {
+            start: read_start(a)?,
+        }),
         "noise" => Some(Command::Noise),
         "echo" => Some(Command::Echo),
         _ => None,

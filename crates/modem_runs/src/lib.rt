@@ -4,6 +4,7 @@
 ghost use Rattle.std.specs.Prelude.{◌≡◌, ◌≢◌, ◌↔◌, ◌+◌, ◌*◌, ◌/◌, ◌≤◌, ◌⊎◌, List, ℕ, length, IfErr, IfSome, IsErrAnd, IsErrOf, OnOk};
 ghost use Rattle.std.specs.Result.{result_err};
 ghost use Rattle.command_answers.specs.Flips.{IsCheapText, IsFlippedText};
+ghost use Rattle.command_answers.specs.InEchoes.{IsCaptureInEchoes, line_of};
 ghost use Rattle.command_answers.specs.InNoise.{IsCaptureInNoise, lines_of};
 ghost use Rattle.command_answers.specs.InOrder.{Outcome, Refuses, Writes};
 ghost use Rattle.command_answers.specs.Inputs.{Reads, reads};
@@ -11,6 +12,7 @@ ghost use Rattle.command_answers.specs.Outcome.{AreRefused, HasOutcome, IsOutcom
 ghost use Rattle.command_words.specs.declared.Command.{Command};
 ghost use Rattle.command_words.specs.Asking.{AreRefusedFor, AskForNothing};
 ghost use Rattle.command_words.specs.Grammar.{Say, texts_of};
+ghost use Rattle.echo_link.specs.Echoed.{EchoedFrame};
 ghost use Rattle.frame_lists.specs.Near.{SentFrame};
 ghost use Rattle.modem_runs.specs.Report.{IsReported, IsWrittenUnlessNoMemory, TakesAnswer, TakesAnswerPrefix, TakesReport};
 ghost use Rattle.modem_ports.specs.Counts.{Rose};
@@ -21,8 +23,8 @@ ghost use Rattle.report_lines.specs.declared.Refusal.{Refusal};
 ghost use Rattle.report_lines.specs.Refusals.{IsDecided, asking, status_of, step_of};
 
 use command_answers::laws::{
-    capture_in_noise_gives_its_frames, cheap_text_gives_its_psdu, flipped_text_gives_its_psdu,
-    outcome_is_one,
+    capture_in_noise_gives_its_frames, cheap_text_gives_its_psdu, echoed_capture_gives_its_frame,
+    flipped_text_gives_its_psdu, outcome_is_one,
 };
 use command_answers::{answer_from, write_answer};
 use command_words::read_request;
@@ -102,6 +104,15 @@ pub fn run<S: Source, K: Sink, E: Sink>(
         → IsCaptureInNoise (texts_of words.now) bytes frames
         → IsWrittenUnlessNoMemory result (lines_of frames) (K.taken out.old) (K.taken out.new)) }
 
+    // A capture with an echoed frame, which `receive-at` is asked to read at its start, gives the line of
+    // exactly this frame.
+    ensures through_echoes { ¬ Rose (S.faults source.old) (S.faults source.new)
+        → ¬ Rose (K.faults out.old) (K.faults out.new)
+        → IfSome (S.left source.old) (λ bytes. (echoed : EchoedFrame)
+        → IsCaptureInEchoes (texts_of words.now) bytes echoed
+        → IsWrittenUnlessNoMemory result (line_of echoed.frame)
+        (K.taken out.old) (K.taken out.new)) }
+
     // The text of a field's kept code with few flips, which `decode` is asked to read, gives that
     // field's PSDU.
     ensures repaired { ¬ Rose (S.faults source.old) (S.faults source.new)
@@ -137,6 +148,7 @@ pub fn run<S: Source, K: Sink, E: Sink>(
     // laws; they do nothing
     outcome_is_one();
     capture_in_noise_gives_its_frames();
+    echoed_capture_gives_its_frame();
     flipped_text_gives_its_psdu();
     cheap_text_gives_its_psdu();
 

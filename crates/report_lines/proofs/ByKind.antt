@@ -1,7 +1,7 @@
 -- The kinds of refusals: those that words and input decide, the faults of the ports, and want of memory.
 use Rattle.std.proofs.Common.{◌≡◌, ◌⊎◌, inl, inr, refl, subst}
 use Rattle.report_lines.specs.declared.Refusal.{Refusal}
-use Rattle.report_lines.specs.declared.Refusal.TheVariants.{Words, EmptyPsdu, LongPsdu, TornCapture, LongCapture, BadBit, BitCount, NoFrame, CutFrame, ReadFault, WriteFault, NoMemory, BadScript, BadList, LongList, BadCost, CostCount, BadTaps}
+use Rattle.report_lines.specs.declared.Refusal.TheVariants.{Words, EmptyPsdu, LongPsdu, TornCapture, LongCapture, BadBit, BitCount, NoFrame, CutFrame, ReadFault, WriteFault, NoMemory, BadScript, BadList, LongList, BadCost, CostCount, CutAt, BadHeader, BadTaps}
 use Rattle.report_lines.specs.declared.Status.TheVariants as status
 use Rattle.report_lines.specs.Refusals.{IsDecided, asking, status_of, step_of}
 
@@ -23,6 +23,8 @@ kinds (BadList at) = inl tt
 kinds (LongList samples) = inl tt
 kinds (BadCost at) = inl tt
 kinds (CostCount have need) = inl tt
+kinds (CutAt start have need) = inl tt
+kinds (BadHeader start) = inl tt
 kinds (BadTaps at) = inl tt
 
 -- the status of bad words is that of the refusals of words alone
@@ -44,6 +46,8 @@ of_words (BadList at) is = cc
 of_words (LongList samples) is = cc
 of_words (BadCost at) is = cc
 of_words (CostCount have need) is = cc
+of_words (CutAt start have need) is = cc
+of_words (BadHeader start) is = cc
 of_words (BadTaps at) is = refl
 
 -- .. and the refusals of words have no other
@@ -65,6 +69,8 @@ of_asking (BadList at) is = cc
 of_asking (LongList samples) is = cc
 of_asking (BadCost at) is = cc
 of_asking (CostCount have need) is = cc
+of_asking (CutAt start have need) is = cc
+of_asking (BadHeader start) is = cc
 of_asking (BadTaps at) is = refl
 
 -- no refusal has the status of a run that answered

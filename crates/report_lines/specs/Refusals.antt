@@ -1,7 +1,7 @@
 -- Refusals, statuses and report lines (own).
 use Rattle.std.specs.Prelude.{ℕ, List, [], ◌∷◌, ◌++◌, codes, decimal}
 use Rattle.report_lines.specs.declared.Refusal.{Refusal}
-use Rattle.report_lines.specs.declared.Refusal.TheVariants.{Words, EmptyPsdu, LongPsdu, TornCapture, LongCapture, BadBit, BitCount, NoFrame, CutFrame, ReadFault, WriteFault, NoMemory, BadScript, BadList, LongList, BadCost, CostCount, BadTaps}
+use Rattle.report_lines.specs.declared.Refusal.TheVariants.{Words, EmptyPsdu, LongPsdu, TornCapture, LongCapture, BadBit, BitCount, NoFrame, CutFrame, ReadFault, WriteFault, NoMemory, BadScript, BadList, LongList, BadCost, CostCount, CutAt, BadHeader, BadTaps}
 use Rattle.report_lines.specs.declared.Status.{Status}
 use Rattle.report_lines.specs.declared.Status.TheVariants as status
 
@@ -35,7 +35,15 @@ status_of (BadList at) = status.BadInput
 status_of (LongList samples) = status.BadInput
 status_of (BadCost at) = status.BadInput
 status_of (CostCount have need) = status.BadInput
+status_of (CutAt start have need) = status.CutFrame
+status_of (BadHeader start) = status.NoFrame
 status_of (BadTaps at) = status.BadWords
+
+-- what is reported of a cut, behind a front
+abbrev pub cut_report : List ℕ → ℕ → ℕ → ℕ → List ℕ
+cut_report front start have need =
+    front ++ decimal start ++ codes " has " ++ decimal have ++ codes " of " ++ decimal need
+    ++ codes " samples"
 
 -- the report line of a refusal, without its newline
 abbrev pub report_of : Refusal → List ℕ
@@ -49,9 +57,7 @@ report_of (BadBit at) = codes "error 6: no bit at " ++ decimal at
 report_of (BitCount have need) =
     codes "error 7: " ++ decimal have ++ codes " bits, need " ++ decimal need
 report_of NoFrame = codes "error 8: no frame"
-report_of (CutFrame start have need) =
-    codes "error 9: frame at " ++ decimal start ++ codes " has " ++ decimal have ++ codes " of "
-    ++ decimal need ++ codes " samples"
+report_of (CutFrame start have need) = cut_report (codes "error 9: frame at ") start have need
 report_of ReadFault = codes "error 10: read fault"
 report_of WriteFault = codes "error 11: write fault"
 report_of NoMemory = codes "error 12: no memory"
@@ -61,6 +67,8 @@ report_of (LongList samples) = codes "error 15: list of " ++ decimal samples ++ 
 report_of (BadCost at) = codes "error 16: no cost at " ++ decimal at
 report_of (CostCount have need) =
     codes "error 17: " ++ decimal have ++ codes " costs, need " ++ decimal need
+report_of (CutAt start have need) = cut_report (codes "error 18: frame at ") start have need
+report_of (BadHeader start) = codes "error 19: no header at " ++ decimal start
 report_of (BadTaps at) = codes "error 20: bad taps at " ++ decimal at
 
 -- the report line: a newline ends it
@@ -106,4 +114,6 @@ step_of (BadList at) = answering
 step_of (LongList samples) = answering
 step_of (BadCost at) = answering
 step_of (CostCount have need) = answering
+step_of (CutAt start have need) = answering
+step_of (BadHeader start) = answering
 step_of (BadTaps at) = asking

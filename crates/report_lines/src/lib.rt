@@ -92,6 +92,11 @@ pub enum Refusal {
     BadCost { at: usize },
     /// The text has `have` costs, and the words ask for another number, `need`.
     CostCount { have: u32, need: u32 },
+    /// From the place `start` of a capture on, `have` samples stand: fewer than the 400 in front of a
+    /// frame's DATA symbols, which are then the `need`, or than the `need` of the header there.
+    CutAt { start: u32, have: u32, need: u32 },
+    /// 400 samples stand from the place `start` on, and no good header.
+    BadHeader { start: u32 },
     /// The words ask for an echo by a text that is none of taps: it is bad at the place `at`, counted
     /// from 0.
     BadTaps { at: usize },
@@ -115,8 +120,8 @@ impl Refusal {
             | Refusal::LongList { .. }
             | Refusal::BadCost { .. }
             | Refusal::CostCount { .. } => Status::BadInput,
-            Refusal::NoFrame => Status::NoFrame,
-            Refusal::CutFrame { .. } => Status::CutFrame,
+            Refusal::NoFrame | Refusal::BadHeader { .. } => Status::NoFrame,
+            Refusal::CutFrame { .. } | Refusal::CutAt { .. } => Status::CutFrame,
             Refusal::ReadFault => Status::ReadFault,
             Refusal::WriteFault => Status::WriteFault,
             Refusal::NoMemory => Status::NoMemory,

@@ -1,6 +1,6 @@
 //! The line that reports a refusal.
-ghost use Rattle.std.specs.Prelude.{◌≡◌, ◌+◌, ◌≤◌, ◌++◌, decimal, length};
-ghost use Rattle.report_lines.specs.Refusals.{report_line};
+ghost use Rattle.std.specs.Prelude.{◌≡◌, ◌+◌, ◌≤◌, [], ◌∷◌, ◌++◌, decimal, length};
+ghost use Rattle.report_lines.specs.Refusals.{cut_report, report_line};
 
 use crate::Refusal;
 use itoa::Buffer;
@@ -98,13 +98,9 @@ pub fn line_of(refusal: &Refusal) -> Line
             .with_number(*need)
             .with(b"\n"),
         Refusal::NoFrame => Line::of(b"error 8: no frame\n"),
-        Refusal::CutFrame { start, have, need } => Line::of(b"error 9: frame at ")
-            .with_number(*start)
-            .with(b" has ")
-            .with_number(*have)
-            .with(b" of ")
-            .with_number(*need)
-            .with(b" samples\n"),
+        Refusal::CutFrame { start, have, need } => {
+            cut_line(b"error 9: frame at ", *start, *have, *need)
+        }
         Refusal::ReadFault => Line::of(b"error 10: read fault\n"),
         Refusal::WriteFault => Line::of(b"error 11: write fault\n"),
         Refusal::NoMemory => Line::of(b"error 12: no memory\n"),
@@ -125,8 +121,28 @@ pub fn line_of(refusal: &Refusal) -> Line
             .with(b" costs, need ")
             .with_number(*need)
             .with(b"\n"),
+        Refusal::CutAt { start, have, need } => {
+            cut_line(b"error 18: frame at ", *start, *have, *need)
+        }
+        Refusal::BadHeader { start } => Line::of(b"error 19: no header at ")
+            .with_number(*start)
+            .with(b"\n"),
         Refusal::BadTaps { at } => Line::of(b"error 20: bad taps at ")
             .with_long(*at as u64)
             .with(b"\n"),
     }
+}
+
+// The line of a frame that is cut, behind a front of at most 20 bytes.
+fn cut_line(front: &[u8], start: u32, have: u32, need: u32) -> Line
+    requires { length front.now ≤ 20 }
+    ensures { result ≡ cut_report front.now start have need ++ 10 ∷ [] }
+{
+    Line::of(front)
+        .with_number(start)
+        .with(b" has ")
+        .with_number(have)
+        .with(b" of ")
+        .with_number(need)
+        .with(b" samples\n")
 }

@@ -6,4 +6,6 @@ mod list_tests;
 #[cfg(test)]
 mod receive_tests;
 #[cfg(test)]
+mod start_tests;
+#[cfg(test)]
 mod tests;

@@ -19,7 +19,7 @@ use symbol_builder::symbol_samples;
 use training_fields::preamble;
 
 // The line of a frame: the numbers, and its octets in hexadecimal.
-fn line_of(alloc: Global, numbers: &str, octets: &[u8]) -> Result<String, AllocError> {
+pub(crate) fn line_of(alloc: Global, numbers: &str, octets: &[u8]) -> Result<String, AllocError> {
     let mut line = format!(in alloc; "frame {numbers} ")?;
     for octet in octets {
         let octet = *octet;
@@ -30,7 +30,7 @@ fn line_of(alloc: Global, numbers: &str, octets: &[u8]) -> Result<String, AllocE
 }
 
 // The first so many bytes, or all where there are fewer.
-fn front(bytes: &[u8], count: usize) -> &[u8] {
+pub(crate) fn front(bytes: &[u8], count: usize) -> &[u8] {
     &bytes[..count.min(bytes.len())]
 }
 
@@ -228,7 +228,7 @@ fn header_bits(text: &str) -> [u8; 24]
 }
 
 // The bytes of the preamble, a SIGNAL symbol of these bits, and 480 zero samples.
-fn capture_of_header(alloc: Global, bits: &str) -> Result<Vec<u8>, Fail> {
+pub(crate) fn capture_of_header(alloc: Global, bits: &str) -> Result<Vec<u8>, Fail> {
     let code = encode(alloc, &header_bits(bits))?;
     let signal = symbol_samples(&points_of_code(Rate::R6, &code), 0);
     let mut capture = MemSink::open(alloc, 4000, 4096, &[])?;

@@ -275,6 +275,10 @@ fn refuses_words(rt: HostRuntime) -> Result<(), Fail> {
         "drill 1001",
         "drill 050",
         "drill",
+        "receive-at",
+        "receive-at 01",
+        "receive-at 16777216",
+        "receive-at 0 0",
         "",
     ];
     for line in lines {
@@ -589,6 +593,7 @@ fn reports_a_failing_source(rt: HostRuntime) -> Result<(), Fail> {
         ("bits 6 93", &octets[..3], 1, 4),
         ("send 36 93", &octets[..], 64, 3),
         ("receive", &frame[..], 700, 7),
+        ("receive-at 0", &frame[..], 700, 7),
         ("send-list", &b"36 93 16 00\n6 1 20 ff\n"[..], 8, 4),
     ] {
         for call in 1..9u64 {
@@ -624,6 +629,7 @@ fn reports_a_failing_sink(rt: HostRuntime) -> Result<(), Fail> {
         ("bits 6 93", &octets[..1], 40, 3),
         ("send 36 93", &octets[..], 1000, 4),
         ("receive", &frame[..], 100, 3),
+        ("receive-at 0", &frame[..], 100, 3),
     ] {
         let mut source = MemSource::open(rt.alloc(), input, 64, &[])?;
         let mut whole = MemSink::open(rt.alloc(), 4000, most, &[])?;
@@ -740,8 +746,18 @@ pub(crate) fn written(alloc: Global, line: &str, input: &[u8]) -> Result<Vec<u8>
 
 // The bytes of a capture after a script.
 pub(crate) fn after(alloc: Global, script: &str, input: &[u8]) -> Result<Vec<u8>, AllocError> {
-    let mut words = words_of(alloc, "noise")?;
-    words.push(String::from_str(alloc, script)?)?;
+    text_written(alloc, "noise", script, input)
+}
+
+// The bytes of what a command writes that carries a text.
+pub(crate) fn text_written(
+    alloc: Global,
+    command: &str,
+    text: &str,
+    input: &[u8],
+) -> Result<Vec<u8>, AllocError> {
+    let mut words = words_of(alloc, command)?;
+    words.push(String::from_str(alloc, text)?)?;
     let mut source = MemSource::open(alloc, input, 1000, &[])?;
     let mut out = MemSink::open(alloc, ROOM, 4096, &[])?;
     let mut steps = Steps::new();
