@@ -7,5 +7,6 @@ pub mod Outcomes
 mod Flipped
 mod InNoise
 mod InEchoes
+mod InTurns
 mod ListsSent
 mod Received

@@ -11,9 +11,11 @@ use Rattle.frame_findings.specs.Laws.{OneFindings, OneReports, SomeFindings, Som
 use Rattle.command_answers.specs.Drilling.{HasDrilled}
 use Rattle.command_answers.specs.Receiving.{HasReceived, HasReports, outcome_of}
 use Rattle.command_answers.specs.Starting.{HasFrameAt, outcome_at}
-use Rattle.frame_reader.specs.Decisions.{plain_decisions}
+use Rattle.frame_reader.specs.Decisions.{decisions_by, plain_decisions}
+use Rattle.frames_turned.specs.Deciding.{phase_decided}
 use Rattle.frame_starts.specs.declared.AtFault.{AtFault}
 use Rattle.frame_starts.specs.declared.AtFault.TheVariants as fault
+use Rattle.rate_table.specs.declared.Rate.{Rate}
 use Rattle.frame_starts.specs.Laws.{OneFrameAt, SomeFrameAt}
 use Rattle.frame_drills.proofs.Back.{one_summary, some_summary}
 use Rattle.frame_drills.specs.Summaries.{text_of_summary}
@@ -27,7 +29,7 @@ use Rattle.report_lines.specs.Refusals.{IsDecided, answering, asking, status_of,
 use Rattle.std.specs.Result.{IfErr, IfOk, result_err}
 use Rattle.command_words.proofs.Asked.{asked_or_refused, nothing_asked, one_refusal, one_request}
 use Rattle.command_words.specs.declared.Request.{Request}
-use Rattle.command_words.specs.declared.Request.TheVariants.{Bits, Decode, DecodeSoft, Send, SendList, Receive, ReceiveAt, Noise, Echo, Rotate, Inspect, Drill, Show}
+use Rattle.command_words.specs.declared.Request.TheVariants.{Bits, Decode, DecodeSoft, Send, SendList, Receive, ReceiveAt, ReceivePhase, Noise, Echo, Rotate, Inspect, Drill, Show}
 use Rattle.command_words.specs.declared.Stage.TheVariants.{Kept}
 use Rattle.command_words.specs.Asking.{AreRefusedFor, AskFor, command_of}
 use Rattle.frame_stages.specs.Stages.{stage_text_of}
@@ -63,12 +65,12 @@ received_one one capture a b (heard, cut, found, is) (heard', cut', found', is')
     is ∙ ap (λ frames. outcome_of (received_of frames cut)) same.0 ∙ ap (λ end. outcome_of (received_of heard' end)) same.1 ∙ sym is'
 
 -- what the frame at a start comes to
-frame_some : SomeFrameAt → (start : ℕ) (capture : List Sample) → AtLeastOne (HasFrameAt plain_decisions start capture)
-frame_some some start capture = let answer = some plain_decisions capture start in (outcome_at answer.0, (answer.0, answer.1, refl))
+frame_some : SomeFrameAt → (decisions : List Sample → Rate → ℕ → List ℕ) (start : ℕ) (capture : List Sample) → AtLeastOne (HasFrameAt decisions start capture)
+frame_some some decisions start capture = let answer = some decisions capture start in (outcome_at answer.0, (answer.0, answer.1, refl))
 
-frame_one : OneFrameAt → (start : ℕ) (capture : List Sample) → AtMostOne (HasFrameAt plain_decisions start capture)
-frame_one one start capture a b (answer, frame, is) (answer', frame', is') =
-    is ∙ ap outcome_at (one plain_decisions capture start answer answer' frame frame') ∙ sym is'
+frame_one : OneFrameAt → (decisions : List Sample → Rate → ℕ → List ℕ) (start : ℕ) (capture : List Sample) → AtMostOne (HasFrameAt decisions start capture)
+frame_one one decisions start capture a b (answer, frame, is) (answer', frame', is') =
+    is ∙ ap outcome_at (one decisions capture start answer answer' frame frame') ∙ sym is'
 
 -- what a drill comes to
 drill_some : (count : ℕ) → AtLeastOne (Answers (HasDrilled count))
@@ -106,7 +108,8 @@ answer_some some SendList read = list_some read
 answer_some some (Echo pairs) read = (Writes (echoed_bytes pairs read), refl)
 answer_some some (Rotate start step) read = (Writes (rotated_bytes start step read), refl)
 answer_some some Receive read = received_some some.findings (samples_in read)
-answer_some some (ReceiveAt start) read = frame_some some.frame start (samples_in read)
+answer_some some (ReceiveAt start) read = frame_some some.frame plain_decisions start (samples_in read)
+answer_some some (ReceivePhase start) read = frame_some some.frame (decisions_by phase_decided) start (samples_in read)
 answer_some some Inspect read = reports_some some.reports (samples_in read)
 answer_some some (Drill count) read = drill_some count
 answer_some some (Show stage rate seed) read = (Writes (stage_text_of stage rate seed read), refl)
@@ -121,7 +124,8 @@ answer_one one SendList read a b has has' = list_one read a b has has'
 answer_one one (Echo pairs) read a b is is' = is ∙ sym is'
 answer_one one (Rotate start step) read a b is is' = is ∙ sym is'
 answer_one one Receive read a b has has' = received_one one.findings (samples_in read) a b has has'
-answer_one one (ReceiveAt start) read a b has has' = frame_one one.frame start (samples_in read) a b has has'
+answer_one one (ReceiveAt start) read a b has has' = frame_one one.frame plain_decisions start (samples_in read) a b has has'
+answer_one one (ReceivePhase start) read a b has has' = frame_one one.frame (decisions_by phase_decided) start (samples_in read) a b has has'
 answer_one one Inspect read a b has has' = reports_one one.reports (samples_in read) a b has has'
 answer_one one (Drill count) read a b has has' = drill_one count a b has has'
 answer_one one (Show stage rate seed) read a b is is' = is ∙ sym is'
@@ -153,6 +157,7 @@ answer_is_no_word (Echo pairs) read outcome is = rw is tt
 answer_is_no_word (Rotate start step) read outcome is = rw is tt
 answer_is_no_word Receive read outcome (heard, cut, found, is) = rw is (received_is_no_word heard cut)
 answer_is_no_word (ReceiveAt start) read outcome (answer, frame, is) = rw is (frame_is_no_word answer)
+answer_is_no_word (ReceivePhase start) read outcome (answer, frame, is) = rw is (frame_is_no_word answer)
 answer_is_no_word Inspect read outcome has = answers_all IsNoWord (HasReports (samples_in read)) (λ answer. tt) outcome has
 answer_is_no_word (Drill count) read outcome has = answers_all IsNoWord (HasDrilled count) (λ answer. tt) outcome has
 answer_is_no_word (Show stage rate seed) read outcome is = rw is tt

@@ -14,7 +14,7 @@ use Rattle.report_lines.specs.declared.Refusal.{Refusal}
 use Rattle.report_lines.specs.declared.Refusal.TheVariants.{EmptyPsdu, LongPsdu, TornCapture, LongCapture, NoMemory, ReadFault}
 use Rattle.report_lines.specs.Refusals.{answering, step_of, writing}
 use Rattle.command_words.specs.declared.Command.{Command}
-use Rattle.command_words.specs.declared.Command.TheVariants.{Bits, Decode, DecodeSoft, Send, SendList, Receive, ReceiveAt, Noise, Echo, Rotate, Inspect, Drill, Show}
+use Rattle.command_words.specs.declared.Command.TheVariants.{Bits, Decode, DecodeSoft, Send, SendList, Receive, ReceiveAt, ReceivePhase, Noise, Echo, Rotate, Inspect, Drill, Show}
 use Rattle.command_answers.specs.declared.reading.Input.{Input}
 use Rattle.command_answers.specs.declared.reading.Input.TheVariants as input
 use Rattle.command_answers.specs.declared.reading.Reading.{Reading}
@@ -33,6 +33,7 @@ reads Echo = Capture
 reads (Rotate start step) = Capture
 reads Receive = Capture
 reads (ReceiveAt start) = Capture
+reads (ReceivePhase start) = Capture
 reads Inspect = Capture
 reads (Drill count) = Nothing
 reads (Show stage rate seed) = Psdu

@@ -6,8 +6,9 @@ use Rattle.send_lists.specs.Sent.{frames_of_list}
 use Rattle.command_answers.specs.Flips.{IsCheapText, IsFlippedText}
 use Rattle.command_answers.specs.InNoise.{IsCaptureInNoise, lines_of}
 use Rattle.echo_link.specs.Echoed.{EchoedFrame}
-use Rattle.command_answers.specs.Answers.{echoed_bytes}
+use Rattle.command_answers.specs.Answers.{echoed_bytes, rotated_bytes}
 use Rattle.command_answers.specs.InEchoes.{IsCaptureInEchoes, IsEchoOfFrame, bytes_of_frame, line_of}
+use Rattle.command_answers.specs.InTurns.{IsCaptureInTurns, IsTurnOfFrame, TurnedFrame}
 use Rattle.command_answers.specs.InOrder.{Outcome, Writes}
 use Rattle.command_answers.specs.Listing.{IsSentList, bytes_of_list}
 use Rattle.command_answers.specs.Outcome.{HasOutcome}
@@ -51,6 +52,21 @@ EchoGivesItsFrame =
     (Writes (echoed_bytes echoed.taps (bytes_of_frame echoed.frame)))
     × HasOutcome back (echoed_bytes echoed.taps (bytes_of_frame echoed.frame))
     (Writes (line_of echoed.frame))
+
+-- the outcome of a capture with a frame with turns, which is received at its start by its pilots: the line of exactly this
+-- frame is written
+abbrev pub TurnedCaptureGivesItsFrame : Type 0
+TurnedCaptureGivesItsFrame =
+    (words : List (List ℕ)) (bytes : List ℕ) (turned : TurnedFrame)
+    → IsCaptureInTurns words bytes turned → HasOutcome words bytes (Writes (line_of turned.frame))
+
+-- the outcome of `rotate` on what is sent of a frame: the bytes of its turned samples are written; and the outcome of
+-- these, which are received at their first place by the pilots: the line of this frame
+abbrev pub RotateGivesItsFrame : Type 0
+RotateGivesItsFrame =
+    (words back : List (List ℕ)) (step : ℕ) (frame : SentFrame) → IsTurnOfFrame words back step frame
+    → HasOutcome words (bytes_of_frame frame) (Writes (rotated_bytes 0 step (bytes_of_frame frame)))
+    × HasOutcome back (rotated_bytes 0 step (bytes_of_frame frame)) (Writes (line_of frame))
 
 -- the outcome of a text of costs against which the kept code of a field costs little: that field's PSDU
 -- is written

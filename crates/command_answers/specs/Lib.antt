@@ -10,4 +10,5 @@ pub mod Outcome
 pub mod Flips
 pub mod InNoise
 pub mod InEchoes
+pub mod InTurns
 pub mod Laws

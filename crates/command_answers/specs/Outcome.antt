@@ -2,14 +2,15 @@
 use Rattle.std.specs.Prelude.{ℕ, ◌≡◌, ◌⊎◌, List, Option, IfSome}
 use Rattle.capture_files.specs.Captures.{samples_in}
 use Rattle.frame_fields.specs.Frames.{sent_bytes}
-use Rattle.frame_reader.specs.Decisions.{plain_decisions}
+use Rattle.frame_reader.specs.Decisions.{decisions_by, plain_decisions}
+use Rattle.frames_turned.specs.Deciding.{phase_decided}
 use Rattle.report_lines.specs.declared.Refusal.{Refusal}
 use Rattle.report_lines.specs.declared.Status.{Status}
 use Rattle.report_lines.specs.declared.Status.TheVariants as status
 use Rattle.report_lines.specs.Refusals.{status_of}
 use Rattle.command_words.specs.declared.Command.{Command}
 use Rattle.command_words.specs.declared.Request.{Request}
-use Rattle.command_words.specs.declared.Request.TheVariants.{Bits, Decode, DecodeSoft, Send, SendList, Receive, ReceiveAt, Noise, Echo, Rotate, Inspect, Drill, Show}
+use Rattle.command_words.specs.declared.Request.TheVariants.{Bits, Decode, DecodeSoft, Send, SendList, Receive, ReceiveAt, ReceivePhase, Noise, Echo, Rotate, Inspect, Drill, Show}
 use Rattle.command_words.specs.declared.Stage.TheVariants.{Kept}
 use Rattle.command_words.specs.Asking.{AreRefusedFor, AskFor, command_of}
 use Rattle.frame_stages.specs.Stages.{stage_text_of}
@@ -35,6 +36,8 @@ AnswerOf (Rotate start step) read outcome = outcome ≡ Writes (rotated_bytes st
 AnswerOf Receive read outcome = HasReceived (samples_in read) outcome
 AnswerOf (ReceiveAt start) read outcome =
     HasFrameAt plain_decisions start (samples_in read) outcome
+AnswerOf (ReceivePhase start) read outcome =
+    HasFrameAt (decisions_by phase_decided) start (samples_in read) outcome
 AnswerOf Inspect read outcome = Answers (HasReports (samples_in read)) outcome
 AnswerOf (Drill count) read outcome = Answers (HasDrilled count) outcome
 AnswerOf (Show stage rate seed) read outcome = outcome ≡ Writes (stage_text_of stage rate seed read)

@@ -19,7 +19,7 @@ ghost use Rattle.symbol_turns.specs.Turning.{turned_samples};
 use crate::decoding::{decoded, soft_decoded};
 use crate::listing::listed;
 use crate::reading::{Input, Reading};
-use crate::starting::frame_at;
+use crate::starting::{frame_at, turned_frame_at};
 use capture_files::write_samples;
 use command_words::{Request, Stage};
 use finding_lines::reports_text;
@@ -99,6 +99,7 @@ fn answer_of_bytes(
         | Request::Echo { .. }
         | Request::Rotate { .. }
         | Request::ReceiveAt { .. }
+        | Request::ReceivePhase { .. }
         | Request::Inspect
         | Request::Receive => unreachable!(),
     }
@@ -127,6 +128,7 @@ fn answer_of_capture(
         Request::Echo { taps } => Ok(Answer::Samples(taps.apply(alloc, &samples)?)),
         Request::Rotate { start, step } => Ok(Answer::Samples(turned(start, step, samples))),
         Request::ReceiveAt { start } => frame_at(alloc, start, &samples, steps),
+        Request::ReceivePhase { start } => turned_frame_at(alloc, start, &samples, steps),
         Request::Inspect => Ok(Answer::Bytes(edges_text(alloc, &samples, steps)?)),
         _ => unreachable!(),
     }

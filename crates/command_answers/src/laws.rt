@@ -1,11 +1,12 @@
 //! What holds of outcomes, for every input. Its functions do nothing: what each ensures is the law.
-ghost use Rattle.command_answers.specs.Laws.{CaptureInNoiseGivesItsFrames, CheapTextGivesItsPsdu, EchoGivesItsFrame, EchoedCaptureGivesItsFrame, FlippedTextGivesItsPsdu, OneOutcome, SentListGivesItsFrames, SomeOutcome};
+ghost use Rattle.command_answers.specs.Laws.{CaptureInNoiseGivesItsFrames, CheapTextGivesItsPsdu, EchoGivesItsFrame, EchoedCaptureGivesItsFrame, FlippedTextGivesItsPsdu, OneOutcome, RotateGivesItsFrame, SentListGivesItsFrames, SomeOutcome, TurnedCaptureGivesItsFrame};
 
 use echo_taps::laws::{places_of_an_echo, sizes_of_an_echo};
 use frame_fields::laws::{few_flips, one_field, sent_frames};
 use frame_findings::laws::{one_reception, one_report};
 use frame_starts::laws::one_frame_at;
 use frames_in_echoes::laws::{an_echoed_frame_is_read, the_echo_of_a_frame_is_read};
+use frames_turned::laws::{a_frame_with_turns_is_read, the_turned_frame_is_read};
 use frames_in_noise::laws::{noise_is_withstood, sent_lists_are_heard};
 use soft_trellis::laws::{little_cost, one_soft_field};
 
@@ -64,6 +65,24 @@ pub fn echo_gives_its_frame()
     sizes_of_an_echo();
     places_of_an_echo();
     the_echo_of_a_frame_is_read();
+}
+
+/// What `receive-phase` is asked to write of a capture in which from that start on a frame stands with any
+/// turn for each symbol, within the phase bound of its rate (20, 14, 6 or 3) of that waveform: the line
+/// of exactly this frame (own).
+pub fn turned_capture_gives_its_frame()
+    ensures { TurnedCaptureGivesItsFrame }
+{
+    a_frame_with_turns_is_read();
+}
+
+/// What `rotate 0 STEP` is asked to write of what `send` writes of a frame: the bytes of its turned samples;
+/// and what `receive-phase 0` is asked to write of these bytes: the line of exactly this frame (own).
+pub fn rotate_gives_its_frame()
+    ensures { RotateGivesItsFrame }
+{
+    sent_frames();
+    the_turned_frame_is_read();
 }
 
 /// What `send-list` is asked to write of a list of at most 16777216 samples: the bytes of its samples; and

@@ -37,6 +37,7 @@ impl Reading {
                 Reading::Bytes,
             Request::Receive
             | Request::ReceiveAt { .. }
+            | Request::ReceivePhase { .. }
             | Request::Noise { .. }
             | Request::Echo { .. }
             | Request::Rotate { .. }

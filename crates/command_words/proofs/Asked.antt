@@ -22,7 +22,7 @@ use Rattle.report_lines.specs.Refusals.{asking, step_of}
 use Rattle.command_words.specs.declared.Command.{Command}
 use Rattle.command_words.specs.declared.Command.TheVariants as command
 use Rattle.command_words.specs.declared.Request.{Request}
-use Rattle.command_words.specs.declared.Request.TheVariants.{Bits, Decode, DecodeSoft, Send, SendList, Receive, ReceiveAt, Noise, Echo, Rotate, Inspect, Drill, Show}
+use Rattle.command_words.specs.declared.Request.TheVariants.{Bits, Decode, DecodeSoft, Send, SendList, Receive, ReceiveAt, ReceivePhase, Noise, Echo, Rotate, Inspect, Drill, Show}
 use Rattle.command_words.specs.Asking.{AreRefusedFor, AskFor, AskForNothing, CarryText, command_of, for_script, for_taps, for_words}
 use Rattle.command_words.specs.Grammar.{Say, echo_words, noise_words}
 use Rattle.command_words.proofs.Reading.{one_command, said_or_not, same_text, text_in}
@@ -68,6 +68,7 @@ request_in words command.Echo = Echo (pairs_in (text_in words) (taps_decided (te
 request_in words (command.Rotate start step) = Rotate start step
 request_in words command.Receive = Receive
 request_in words (command.ReceiveAt start) = ReceiveAt start
+request_in words (command.ReceivePhase start) = ReceivePhase start
 request_in words command.Inspect = Inspect
 request_in words (command.Drill count) = Drill count
 request_in words (command.Show stage rate seed) = Show stage rate seed
@@ -84,6 +85,7 @@ asked_is_read words (Echo pairs) (text, are, says) = rw (same_text (codes "echo"
 asked_is_read words (Rotate start step) carried = refl
 asked_is_read words Receive carried = refl
 asked_is_read words (ReceiveAt start) carried = refl
+asked_is_read words (ReceivePhase start) carried = refl
 asked_is_read words Inspect carried = refl
 asked_is_read words (Drill count) carried = refl
 asked_is_read words (Show stage rate seed) carried = refl
@@ -113,6 +115,7 @@ asked_where_said words command.Echo says =
 asked_where_said words (command.Rotate start step) says = inl (Rotate start step, record { said = says; carried = tt })
 asked_where_said words command.Receive says = inl (Receive, record { said = says; carried = tt })
 asked_where_said words (command.ReceiveAt start) says = inl (ReceiveAt start, record { said = says; carried = tt })
+asked_where_said words (command.ReceivePhase start) says = inl (ReceivePhase start, record { said = says; carried = tt })
 asked_where_said words command.Inspect says = inl (Inspect, record { said = says; carried = tt })
 asked_where_said words (command.Drill count) says = inl (Drill count, record { said = says; carried = tt })
 asked_where_said words (command.Show stage rate seed) says = inl (Show stage rate seed, record { said = says; carried = tt })
@@ -137,6 +140,7 @@ script_asked words (Echo pairs) text is carried are = cc
 script_asked words (Rotate start step) text is carried are = cc
 script_asked words Receive text is carried are = cc
 script_asked words (ReceiveAt start) text is carried are = cc
+script_asked words (ReceivePhase start) text is carried are = cc
 script_asked words Inspect text is carried are = cc
 script_asked words (Drill count) text is carried are = cc
 script_asked words (Show stage rate seed) text is carried are = cc
@@ -153,6 +157,7 @@ taps_asked words (Echo pairs) text is (text', are', (taps, says, _)) are = (taps
 taps_asked words (Rotate start step) text is carried are = cc
 taps_asked words Receive text is carried are = cc
 taps_asked words (ReceiveAt start) text is carried are = cc
+taps_asked words (ReceivePhase start) text is carried are = cc
 taps_asked words Inspect text is carried are = cc
 taps_asked words (Drill count) text is carried are = cc
 taps_asked words (Show stage rate seed) text is carried are = cc

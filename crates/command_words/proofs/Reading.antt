@@ -10,7 +10,7 @@ use Rattle.rate_table.proofs.ByRate.{by_rate, rate_of_mbps, rate_of_mbps-of}
 use Rattle.rate_table.specs.declared.Rate.{Rate}
 use Rattle.rate_table.specs.Table.{row_of}
 use Rattle.command_words.specs.declared.Command.{Command}
-use Rattle.command_words.specs.declared.Command.TheVariants.{Bits, Decode, DecodeSoft, Send, SendList, Receive, ReceiveAt, Noise, Echo, Rotate, Inspect, Drill, Show}
+use Rattle.command_words.specs.declared.Command.TheVariants.{Bits, Decode, DecodeSoft, Send, SendList, Receive, ReceiveAt, ReceivePhase, Noise, Echo, Rotate, Inspect, Drill, Show}
 use Rattle.command_words.specs.declared.Stage.{Stage}
 use Rattle.command_words.specs.declared.Stage.TheVariants.{Scrambled, Coded, Kept, Interleaved, Points, Header, Samples}
 use Rattle.command_words.specs.Grammar.{AreWordsOf, IsFrom, IsInRange, Say, SayNothing, echo_words, most_start, noise_words, rate_word, stage_word}
@@ -68,7 +68,8 @@ command_in (name ∷ text ∷ []) =
     cond (bytes_eq name (codes "noise")) (Some Noise)
     (cond (bytes_eq name (codes "echo")) (Some Echo)
     (cond (bytes_eq name (codes "drill")) (Some (Drill (number_in text)))
-    (cond (bytes_eq name (codes "receive-at")) (Some (ReceiveAt (number_in text))) None)))
+    (cond (bytes_eq name (codes "receive-at")) (Some (ReceiveAt (number_in text)))
+    (cond (bytes_eq name (codes "receive-phase")) (Some (ReceivePhase (number_in text))) None))))
 command_in (name ∷ a ∷ b ∷ []) =
     cond (bytes_eq name (codes "bits")) (Some (Bits (rate_in a) (number_in b)))
     (cond (bytes_eq name (codes "decode")) (Some (Decode (rate_in a) (number_in b)))
@@ -90,6 +91,7 @@ reads_back words Echo range (text, are) = rw are refl
 reads_back words (Rotate start step) range are = rw (are, number_back start (omega (arith, range.0.1)), number_back step (omega (arith, range.1.1))) refl
 reads_back words Receive range are = rw are refl
 reads_back words (ReceiveAt start) range are = rw (are, number_back start (omega (arith, range.1))) refl
+reads_back words (ReceivePhase start) range are = rw (are, number_back start (omega (arith, range.1))) refl
 reads_back words Inspect range are = rw are refl
 reads_back words (Drill count) range are = rw (are, number_back count (omega (arith, range.1))) refl
 reads_back words (Show stage rate seed) range are = rw (are, stage_back stage, rate_back rate, number_back seed (omega (arith, range.1))) refl
@@ -128,6 +130,7 @@ range_decided Echo = inl tt
 range_decided (Rotate start step) = both_decided (from_decided 0 most_start start) (from_decided 0 63 step)
 range_decided Receive = inl tt
 range_decided (ReceiveAt start) = from_decided 0 most_start start
+range_decided (ReceivePhase start) = from_decided 0 most_start start
 range_decided Inspect = inl tt
 range_decided (Drill count) = from_decided 1 1000 count
 range_decided (Show stage rate seed) = from_decided 1 127 seed
@@ -169,6 +172,7 @@ words_decided words Echo = text_decided (codes "echo") words
 words_decided words (Rotate start step) = same_words words _
 words_decided words Receive = same_words words _
 words_decided words (ReceiveAt start) = same_words words _
+words_decided words (ReceivePhase start) = same_words words _
 words_decided words Inspect = same_words words _
 words_decided words (Drill count) = same_words words _
 words_decided words (Show stage rate seed) = same_words words _

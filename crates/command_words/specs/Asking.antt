@@ -8,7 +8,7 @@ use Rattle.report_lines.specs.declared.Refusal.TheVariants.{BadScript, BadTaps, 
 use Rattle.command_words.specs.declared.Command.{Command}
 use Rattle.command_words.specs.declared.Command.TheVariants as command
 use Rattle.command_words.specs.declared.Request.{Request}
-use Rattle.command_words.specs.declared.Request.TheVariants.{Bits, Decode, DecodeSoft, Send, SendList, Receive, ReceiveAt, Noise, Echo, Rotate, Inspect, Drill, Show}
+use Rattle.command_words.specs.declared.Request.TheVariants.{Bits, Decode, DecodeSoft, Send, SendList, Receive, ReceiveAt, ReceivePhase, Noise, Echo, Rotate, Inspect, Drill, Show}
 use Rattle.command_words.specs.Grammar.{Say, SayNothing, echo_words, noise_words}
 
 -- the command of a request
@@ -23,6 +23,7 @@ command_of (Echo pairs) = command.Echo
 command_of (Rotate start step) = command.Rotate start step
 command_of Receive = command.Receive
 command_of (ReceiveAt start) = command.ReceiveAt start
+command_of (ReceivePhase start) = command.ReceivePhase start
 command_of Inspect = command.Inspect
 command_of (Drill count) = command.Drill count
 command_of (Show stage rate seed) = command.Show stage rate seed

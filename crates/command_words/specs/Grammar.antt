@@ -9,7 +9,7 @@ use Rattle.ofdm_scrambler.specs.Sequence.{IsSeed}
 use Rattle.command_words.specs.declared.Stage.{Stage}
 use Rattle.command_words.specs.declared.Stage.TheVariants.{Scrambled, Coded, Kept, Interleaved, Points, Header, Samples}
 use Rattle.command_words.specs.declared.Command.{Command}
-use Rattle.command_words.specs.declared.Command.TheVariants.{Bits, Decode, DecodeSoft, Send, SendList, Receive, ReceiveAt, Noise, Echo, Rotate, Inspect, Drill, Show}
+use Rattle.command_words.specs.declared.Command.TheVariants.{Bits, Decode, DecodeSoft, Send, SendList, Receive, ReceiveAt, ReceivePhase, Noise, Echo, Rotate, Inspect, Drill, Show}
 
 -- the texts of the words of the command line
 abbrev pub texts_of : Vec (String Global) Global → List (List ℕ)
@@ -51,6 +51,7 @@ AreWordsOf Echo words = (text : List ℕ) × (words ≡ echo_words text)
 AreWordsOf (Rotate start step) words = words ≡ codes "rotate" ∷ decimal start ∷ decimal step ∷ []
 AreWordsOf Receive words = words ≡ codes "receive" ∷ []
 AreWordsOf (ReceiveAt start) words = words ≡ codes "receive-at" ∷ decimal start ∷ []
+AreWordsOf (ReceivePhase start) words = words ≡ codes "receive-phase" ∷ decimal start ∷ []
 AreWordsOf Inspect words = words ≡ codes "inspect" ∷ []
 AreWordsOf (Drill count) words = words ≡ codes "drill" ∷ decimal count ∷ []
 AreWordsOf (Show stage rate seed) words =
@@ -76,6 +77,7 @@ IsInRange Echo = Unit {0}
 IsInRange (Rotate start step) = IsFrom 0 most_start start × IsFrom 0 63 step
 IsInRange Receive = Unit {0}
 IsInRange (ReceiveAt start) = IsFrom 0 most_start start
+IsInRange (ReceivePhase start) = IsFrom 0 most_start start
 IsInRange Inspect = Unit {0}
 IsInRange (Drill count) = IsFrom 1 1000 count
 IsInRange (Show stage rate seed) = IsSeed seed

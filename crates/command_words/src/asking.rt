@@ -34,6 +34,7 @@ pub fn read_request(words: &Vec<String>) -> Result<Request, Refusal>
         Command::Rotate { start, step } => Ok(Request::Rotate { start, step }),
         Command::Receive => Ok(Request::Receive),
         Command::ReceiveAt { start } => Ok(Request::ReceiveAt { start }),
+        Command::ReceivePhase { start } => Ok(Request::ReceivePhase { start }),
         Command::Inspect => Ok(Request::Inspect),
         Command::Drill { count } => Ok(Request::Drill { count }),
         Command::Show { stage, rate, seed } => Ok(Request::Show { stage, rate, seed }),

@@ -73,6 +73,10 @@ pub enum Command {
     ReceiveAt {
         start: u32,
     },
+    /// `receive-phase START`
+    ReceivePhase {
+        start: u32,
+    },
     /// `inspect`
     Inspect,
     /// `drill COUNT`
@@ -129,6 +133,10 @@ pub enum Request {
     Receive,
     /// The line of the frame that begins at a place of a capture.
     ReceiveAt {
+        start: u32,
+    },
+    /// The same, each of the frame's symbols turned back by its pilots.
+    ReceivePhase {
         start: u32,
     },
     /// A line for each edge of a capture.

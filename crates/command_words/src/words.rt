@@ -61,6 +61,9 @@ fn read_two(name: &str, a: &str) -> Option<Command>
         "receive-at" => Some(Command::ReceiveAt {
             start: read_start(a)?,
         }),
+        "receive-phase" => Some(Command::ReceivePhase {
+            start: read_start(a)?,
+        }),
         "noise" => Some(Command::Noise),
         "echo" => Some(Command::Echo),
         _ => None,

@@ -14,7 +14,7 @@ use Rattle.command_words.proofs.Reading.{one_command}
 use Rattle.command_words.proofs.Asked.{nothing_asked, refused_at}
 use Rattle.command_words.specs.declared.Command.TheVariants as command
 use Rattle.command_words.specs.declared.Request.{Request}
-use Rattle.command_words.specs.declared.Request.TheVariants.{Bits, Decode, DecodeSoft, Send, SendList, Receive, ReceiveAt, Noise, Echo, Rotate, Inspect, Drill, Show}
+use Rattle.command_words.specs.declared.Request.TheVariants.{Bits, Decode, DecodeSoft, Send, SendList, Receive, ReceiveAt, ReceivePhase, Noise, Echo, Rotate, Inspect, Drill, Show}
 use Rattle.command_words.specs.Asking.{AreRefusedFor, AskFor, AskForNothing, command_of}
 use Rattle.command_words.specs.Grammar.{Say}
 use Rattle.command_answers.proofs.Outcomes.{words_are_refused}
@@ -52,6 +52,7 @@ is_receive (Noise items) is = cc
 is_receive (Echo pairs) is = cc
 is_receive (Rotate start step) is = cc
 is_receive (ReceiveAt start) is = cc
+is_receive (ReceivePhase start) is = cc
 is_receive Inspect is = cc
 is_receive (Drill count) is = cc
 is_receive (Show stage rate seed) is = cc

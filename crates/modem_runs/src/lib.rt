@@ -5,6 +5,7 @@ ghost use Rattle.std.specs.Prelude.{◌≡◌, ◌≢◌, ◌↔◌, ◌+◌, �
 ghost use Rattle.std.specs.Result.{result_err};
 ghost use Rattle.command_answers.specs.Flips.{IsCheapText, IsFlippedText};
 ghost use Rattle.command_answers.specs.InEchoes.{IsCaptureInEchoes, line_of};
+ghost use Rattle.command_answers.specs.InTurns.{IsCaptureInTurns, TurnedFrame};
 ghost use Rattle.command_answers.specs.InNoise.{IsCaptureInNoise, lines_of};
 ghost use Rattle.command_answers.specs.InOrder.{Outcome, Refuses, Writes};
 ghost use Rattle.command_answers.specs.Inputs.{Reads, reads};
@@ -113,6 +114,15 @@ pub fn run<S: Source, K: Sink, E: Sink>(
         → IsWrittenUnlessNoMemory result (line_of echoed.frame)
         (K.taken out.old) (K.taken out.new)) }
 
+    // A capture with a frame with turns, which `receive-phase` is asked to read at its start, gives the line
+    // of exactly this frame.
+    ensures through_turns { ¬ Rose (S.faults source.old) (S.faults source.new)
+        → ¬ Rose (K.faults out.old) (K.faults out.new)
+        → IfSome (S.left source.old) (λ bytes. (turned : TurnedFrame)
+        → IsCaptureInTurns (texts_of words.now) bytes turned
+        → IsWrittenUnlessNoMemory result (line_of turned.frame)
+        (K.taken out.old) (K.taken out.new)) }
+
     // The text of a field's kept code with few flips, which `decode` is asked to read, gives that
     // field's PSDU.
     ensures repaired { ¬ Rose (S.faults source.old) (S.faults source.new)
@@ -149,6 +159,7 @@ pub fn run<S: Source, K: Sink, E: Sink>(
     outcome_is_one();
     capture_in_noise_gives_its_frames();
     echoed_capture_gives_its_frame();
+    turned_capture_gives_its_frame();
     flipped_text_gives_its_psdu();
     cheap_text_gives_its_psdu();
 

@@ -102,3 +102,24 @@ fn refuses_a_bad_header_at_a_start(rt: HostRuntime) -> Result<(), Fail> {
     }
     Ok(())
 }
+
+// What is turned is received by its pilots, by each step at each rate; and what isn't turned is received by both.
+#[test]
+fn receives_turned_frames(rt: HostRuntime) -> Result<(), Fail> {
+    let octets = a_hundred_octets();
+    for rate in ["6", "9", "12", "18", "24", "36", "48", "54"] {
+        let words = format!(in rt.alloc(); "send {rate} 93")?;
+        let frame = written(rt.alloc(), words.as_str(), &octets)?;
+        let heard = format!(in rt.alloc(); "0 {rate} 100 93")?;
+        let line = line_of(rt.alloc(), heard.as_str(), &octets)?;
+        let row = answers("receive-at 0", &frame, Out::Whole(line.as_bytes()));
+        check(&rt, rt.alloc(), &row)?;
+        for step in 0..64 {
+            let words = format!(in rt.alloc(); "rotate 0 {step}")?;
+            let turned = written(rt.alloc(), words.as_str(), &frame)?;
+            let row = answers("receive-phase 0", &turned, Out::Whole(line.as_bytes()));
+            check(&rt, rt.alloc(), &row)?;
+        }
+    }
+    Ok(())
+}

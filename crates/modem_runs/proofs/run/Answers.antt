@@ -9,6 +9,7 @@ use Rattle.report_lines.specs.Refusals.{status_of}
 use Rattle.command_words.specs.Grammar.{texts_of}
 use Rattle.command_answers.specs.Flips.{IsCheapText, IsFlippedText}
 use Rattle.command_answers.specs.InEchoes.{IsCaptureInEchoes, line_of}
+use Rattle.command_answers.specs.InTurns.{IsCaptureInTurns}
 use Rattle.command_answers.specs.InNoise.{IsCaptureInNoise, lines_of}
 use Rattle.report_lines.proofs.ByKind.{no_refusal_is_ok}
 use Rattle.modem_runs.proofs.Refused.{answered_follows, answered_refuses, bad_words, refused_answers, refused_ask_nothing, refused_follows, refused_refuses, refuses_words, where_refused}
@@ -75,6 +76,11 @@ returns-in-Ok-clause-through_echoes g c = λ unread unwritten.
     written_where_answered c.outcome_is_one.ensures.only (texts_of c.args.words.now) (IsCaptureInEchoes (texts_of c.args.words.now)) (λ echoed. line_of echoed.frame)
     (c.echoed_capture_gives_its_frame.ensures (texts_of c.args.words.now)) (g.S.Source.left c.args.source.now) (g.K.Sink.taken c.args.out.now) (g.K.Sink.taken c.execute.new.out) _ refl c.in-Ok.ensures.ok
 
+pub returns-in-Ok-clause-through_turns : goal.returns-in-Ok-clause-through_turns
+returns-in-Ok-clause-through_turns g c = λ unread unwritten.
+    written_where_answered c.outcome_is_one.ensures.only (texts_of c.args.words.now) (IsCaptureInTurns (texts_of c.args.words.now)) (λ turned. line_of turned.frame)
+    (c.turned_capture_gives_its_frame.ensures (texts_of c.args.words.now)) (g.S.Source.left c.args.source.now) (g.K.Sink.taken c.args.out.now) (g.K.Sink.taken c.execute.new.out) _ refl c.in-Ok.ensures.ok
+
 pub returns-in-Ok-clause-follows : goal.returns-in-Ok-clause-follows
 returns-in-Ok-clause-follows g c =
     answered_follows c.outcome_is_one.ensures.only (texts_of c.args.words.now) (g.S.Source.left c.args.source.now) (g.K.Sink.taken c.args.out.now) (g.K.Sink.taken c.execute.new.out) c.in-Ok.ensures.ok
@@ -101,6 +107,12 @@ pub returns-in-Err-clause-through_echoes : goal.returns-in-Err-clause-through_ec
 returns-in-Err-clause-through_echoes g c = λ unread unwritten.
     written_where_refused (texts_of c.args.words.now) (IsCaptureInEchoes (texts_of c.args.words.now)) (λ echoed. line_of echoed.frame)
     (c.echoed_capture_gives_its_frame.ensures (texts_of c.args.words.now)) (g.S.Source.left c.args.source.now) (g.K.Sink.taken c.args.out.now) (g.K.Sink.taken c.execute.new.out) c.refuse.result
+    (λ is. no_refusal_is_ok c.in-Err.refusal (rw c.refuse.ensures.status at is)) (returns-in-Err-clause-answers g c unread unwritten)
+
+pub returns-in-Err-clause-through_turns : goal.returns-in-Err-clause-through_turns
+returns-in-Err-clause-through_turns g c = λ unread unwritten.
+    written_where_refused (texts_of c.args.words.now) (IsCaptureInTurns (texts_of c.args.words.now)) (λ turned. line_of turned.frame)
+    (c.turned_capture_gives_its_frame.ensures (texts_of c.args.words.now)) (g.S.Source.left c.args.source.now) (g.K.Sink.taken c.args.out.now) (g.K.Sink.taken c.execute.new.out) c.refuse.result
     (λ is. no_refusal_is_ok c.in-Err.refusal (rw c.refuse.ensures.status at is)) (returns-in-Err-clause-answers g c unread unwritten)
 
 pub returns-in-Err-clause-read_to_limit : goal.returns-in-Err-clause-read_to_limit

@@ -3,7 +3,8 @@ use Rattle.std.specs.Result.{IfErr, IfOk}
 use Rattle.capture_files.specs.Captures.{bytes_of_samples}
 use Rattle.capture_files.proofs.Bytes.{samples_back}
 use Rattle.echo_taps.specs.Echoes.{echo_of}
-use Rattle.frame_reader.specs.Decisions.{plain_decisions}
+use Rattle.frame_reader.specs.Decisions.{decisions_by, plain_decisions}
+use Rattle.frames_turned.specs.Deciding.{phase_decided}
 use Rattle.report_lines.specs.declared.Refusal.TheVariants.{NoMemory}
 use Rattle.report_lines.specs.Refusals.{answering, step_of}
 use Rattle.command_answers.specs.Answers.{bytes_of_answer}
@@ -39,6 +40,19 @@ returns-in-ReceiveAt-clause-refused c =
     rw (c.in-ReceiveAt.is, back) (subst
     (λ list. IfErr c.frame_at.result (λ refusal. (refusal ≡ NoMemory) ⊎ ((step_of refusal ≡ answering) × HasFrameAt plain_decisions c.in-ReceiveAt.start list (Refuses refusal))))
     c.deref-in-ReceiveAt.ensures.value c.frame_at.ensures.refused)
+
+pub returns-in-ReceivePhase-clause-ok : goal.returns-in-ReceivePhase-clause-ok
+returns-in-ReceivePhase-clause-ok c =
+    let back = samples_back c.args.samples.items c.requires.samples in
+    rw (c.in-ReceivePhase.is, back) (subst (λ list. IfOk c.turned_frame_at.result (λ answer. HasFrameAt (decisions_by phase_decided) c.in-ReceivePhase.start list (Writes (bytes_of_answer answer))))
+    c.deref-in-ReceivePhase.ensures.value c.turned_frame_at.ensures.ok)
+
+pub returns-in-ReceivePhase-clause-refused : goal.returns-in-ReceivePhase-clause-refused
+returns-in-ReceivePhase-clause-refused c =
+    let back = samples_back c.args.samples.items c.requires.samples in
+    rw (c.in-ReceivePhase.is, back) (subst
+    (λ list. IfErr c.turned_frame_at.result (λ refusal. (refusal ≡ NoMemory) ⊎ ((step_of refusal ≡ answering) × HasFrameAt (decisions_by phase_decided) c.in-ReceivePhase.start list (Refuses refusal))))
+    c.deref-in-ReceivePhase.ensures.value c.turned_frame_at.ensures.refused)
 
 pub returns-in_ok-edges_text-in-Inspect-clause-ok : goal.returns-in_ok-edges_text-in-Inspect-clause-ok
 returns-in_ok-edges_text-in-Inspect-clause-ok c =
