@@ -6,8 +6,8 @@ use frame_fields::laws::{few_flips, one_field, sent_frames};
 use frame_findings::laws::{one_reception, one_report};
 use frame_starts::laws::one_frame_at;
 use frames_in_echoes::laws::{an_echoed_frame_is_read, the_echo_of_a_frame_is_read};
-use frames_turned::laws::{a_frame_with_turns_is_read, the_turned_frame_is_read};
 use frames_in_noise::laws::{noise_is_withstood, sent_lists_are_heard};
+use frames_turned::laws::{a_frame_with_turns_is_read, the_turned_frame_is_read};
 use soft_trellis::laws::{little_cost, one_soft_field};
 
 /// All words and all bytes have exactly one outcome (own).
