@@ -29,7 +29,7 @@ use Rattle.command_answers.proofs.ListsSent.{SentAreWithin, are_samples}
 pub echoed_outcome : EchoedFrameIsThere → EchoedCaptureGivesItsFrame
 echoed_outcome there words bytes echoed h =
     of_request (ReceiveAt echoed.frame.start) (record { said = h.asked; carried = tt })
-    (passed (λ long. omega (arith, long, h.short)) (passed (λ torn. torn h.even) (Ok (heard_of echoed.frame), echoed_there there (samples_in bytes) echoed h.echoed, refl)))
+    (passed (λ long. omega (arith, long, h.short)) (passed (λ torn. torn h.even) (Ok (heard_of echoed.frame), echoed_there there (samples_in bytes) echoed h.there, refl)))
 
 pub echo_outcome : SentAreWithin → PairsAreEcho → EchoIsLong → EchoIsSamples → EchoIsThere → EchoGivesItsFrame
 echo_outcome within says long of_16_bits there words back echoed h =
@@ -45,7 +45,7 @@ echo_outcome within says long of_16_bits there words back echoed h =
     let echo_size : length (bytes_of_samples echo) ≡ 4 * length echo = length-bytes_of_samples echo in
     let echo_long : length echo ≡ length sent + 7 = long taps (samples_in bytes) ∙ ap (λ (s : List Sample). length s + 7) again in
     let echo_again : samples_in (bytes_of_samples echo) ≡ echo = samples_back echo (of_16_bits taps (samples_in bytes)) in
-    let is_echo : IsEcho taps = says h.asked.carried.0 taps h.asked.carried.1.1 in
+    let is_echo : IsEcho taps = says h.asked.carried.0 taps h.asked.carried.2 in
     let frame_is : IsFrameAt plain_decisions (samples_in (bytes_of_samples echo)) 0 (Ok (heard_of frame)) =
     subst (λ (s : List Sample). IsFrameAt plain_decisions s 0 (Ok (heard_of frame))) (sym (echo_again ∙ ap (echo_of taps) again))
     (there taps frame is_echo h.may_be_sent h.first) in

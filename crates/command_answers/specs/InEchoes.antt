@@ -19,7 +19,7 @@ pub record IsCaptureInEchoes (words : List (List ℕ)) (bytes : List ℕ) (echoe
   pub asked : Say words (ReceiveAt echoed.frame.start)
   pub short : length bytes ≤ most_input
   pub even : length bytes % 4 ≡ 0
-  pub echoed : HasEchoed (samples_in bytes) echoed
+  pub there : HasEchoed (samples_in bytes) echoed
 
 -- the line of a frame, as it is heard
 abbrev pub line_of : SentFrame → List ℕ
