@@ -25,7 +25,7 @@ ghost use Rattle.report_lines.specs.Refusals.{IsDecided, asking, status_of, step
 
 use command_answers::laws::{
     capture_in_noise_gives_its_frames, cheap_text_gives_its_psdu, echoed_capture_gives_its_frame,
-    flipped_text_gives_its_psdu, outcome_is_one,
+    flipped_text_gives_its_psdu, outcome_is_one, turned_capture_gives_its_frame,
 };
 use command_answers::{answer_from, write_answer};
 use command_words::read_request;
