@@ -6,3 +6,5 @@ pub mod Gathering
 pub mod Sizes
 pub mod TapSums
 pub mod Places
+pub mod SumLanes
+pub mod BlockSums

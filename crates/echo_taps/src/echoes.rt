@@ -1,15 +1,18 @@
 //! The echo of samples.
-ghost use Rattle.std.specs.Prelude.{◌≡◌, ◌+◌, ◌^◌, ◌≤◌, ℕ, [], ◌∷◌, ◌++◌, length, unsigned_abs, IfOk, OnOk};
+ghost use Rattle.std.specs.Prelude.{◌≡◌, ◌+◌, ◌-◌, ◌*◌, ◌^◌, ◌≤◌, ℕ, [], ◌∷◌, ◌++◌, length, unsigned_abs, IfOk, OnOk};
+ghost use Rattle.echo_taps.specs.Blocks.{echo_below};
 ghost use Rattle.echo_taps.specs.Echoes.{earlier, echo_of, gathered, held_sample, pairs_at};
 ghost use Rattle.fixed_complex.specs.PairLists.{PairsWithin};
 ghost use Rattle.fixed_complex.specs.Pairs.{IsWithin};
 ghost use Rattle.fixed_complex.specs.Rounding.{half_up};
 ghost use Rattle.lane_kernels.specs.Kernels.{held};
 
+use crate::lanes::{block_sums, held_samples};
 use fixed_complex::{Cx, Sample, add, mul};
 use std::alloc::{AllocError, Global};
 
-// The echo of samples, by eight pairs.
+// The echo of samples, by eight pairs: sixteen places at once where all that comes together is there, and the others
+// one by one.
 pub(crate) fn echo(
     alloc: Global,
     pairs: &[Cx; 8],
@@ -20,11 +23,68 @@ pub(crate) fn echo(
     ensures echo { IfOk result (λ echo. echo.items ≡ echo_of pairs.now samples.now) }
 {
     let count = samples.len() + 7;
+    let blocks = samples.len().saturating_sub(7) / 16;
     let mut echo = Vec::with_capacity(alloc, count)?;
-    for place in 0..count {
-        push_held(&mut echo, sum_at(pairs, samples, place))?;
-    }
+    push_places(&mut echo, pairs, samples, 0, 7)?;
+    push_blocks(&mut echo, pairs, samples, blocks)?;
+    push_places(&mut echo, pairs, samples, 7 + 16 * blocks, count)?;
     Ok(echo)
+}
+
+// Appends the samples of the echo from the seventh place on, so many times sixteen.
+fn push_blocks(
+    echo: &mut Vec<Sample>,
+    pairs: &[Cx; 8],
+    samples: &[Sample],
+    blocks: usize,
+) -> Result<(), AllocError>
+    requires pairs { PairsWithin 1024 pairs.now }
+    requires blocks { 16 * blocks ≤ length samples.now - 7 }
+    requires before { echo.old.items ≡ echo_below pairs.now samples.now 7 }
+    ensures { OnOk result (echo.new.items ≡ echo_below pairs.now samples.now (7 + 16 * blocks)) }
+{
+    for k in 0..blocks {
+        push_block(echo, pairs, samples, 7 + 16 * k)?;
+    }
+    Ok(())
+}
+
+// Appends sixteen samples of the echo.
+#[inline(always)]
+fn push_block(
+    echo: &mut Vec<Sample>,
+    pairs: &[Cx; 8],
+    samples: &[Sample],
+    place: usize,
+) -> Result<(), AllocError>
+    requires pairs { PairsWithin 1024 pairs.now }
+    requires from { 7 ≤ place }
+    requires upto { place + 16 ≤ length samples.now }
+    requires before { echo.old.items ≡ echo_below pairs.now samples.now place }
+    ensures { OnOk result (echo.new.items ≡ echo_below pairs.now samples.now (place + 16)) }
+{
+    let block = block_sums(pairs, samples, place);
+    echo.extend_from_slice(&held_samples(block))?;
+    Ok(())
+}
+
+// Appends the samples of the echo from one place up to another.
+fn push_places(
+    echo: &mut Vec<Sample>,
+    pairs: &[Cx; 8],
+    samples: &[Sample],
+    from: usize,
+    upto: usize,
+) -> Result<(), AllocError>
+    requires pairs { PairsWithin 1024 pairs.now }
+    requires places { from ≤ upto }
+    requires before { echo.old.items ≡ echo_below pairs.now samples.now from }
+    ensures { OnOk result (echo.new.items ≡ echo_below pairs.now samples.now upto) }
+{
+    for place in from..upto {
+        push_held(echo, sum_at(pairs, samples, place))?;
+    }
+    Ok(())
 }
 
 // Appends the held sample of a sum.

@@ -13,6 +13,7 @@ use std::marker::Model;
 use thiserror::Error;
 
 mod echoes;
+mod lanes;
 pub mod laws;
 mod reading;
 

@@ -52,3 +52,72 @@ fn echoes_of_samples(rt: HostRuntime) -> Result<(), Fail> {
     assert!(rt; none.as_slice() == [silence; 7].as_slice());
     Ok(())
 }
+
+// The next state of a generator of pseudo-random numbers.
+fn next(state: u64) -> u64 {
+    state
+        .wrapping_mul(6364136223846793005)
+        .wrapping_add(1442695040888963407)
+}
+
+// Samples over the whole range of 16 bits.
+fn samples() -> [Sample; 67] {
+    let mut samples = [Sample { i: 0, q: 0 }; 67];
+    let mut state = 5;
+    for n in 0..67 {
+        state = next(state);
+        samples[n] = Sample {
+            i: ((state >> 48) as u16).cast_signed(),
+            q: (((state >> 32) % 65536) as u16).cast_signed(),
+        };
+    }
+    samples
+}
+
+// A component over 1024, rounded half up and held.
+fn plain_part(part: i64) -> i64 {
+    part.wrapping_add(512).div_euclid(1024).clamp(-32768, 32767)
+}
+
+// The components of an echo at a place, by delays and their pairs.
+fn plain_sample(pairs: &[(usize, i64, i64)], samples: &[Sample], place: usize) -> (i64, i64) {
+    let (mut re, mut im) = (0i64, 0i64);
+    for &(late, tap_re, tap_im) in pairs {
+        if late <= place && place - late < samples.len() {
+            let sample = samples[place - late];
+            let (i, q) = (i64::from(sample.i), i64::from(sample.q));
+            re = re
+                .wrapping_add(tap_re.wrapping_mul(i))
+                .wrapping_sub(tap_im.wrapping_mul(q));
+            im = im
+                .wrapping_add(tap_re.wrapping_mul(q))
+                .wrapping_add(tap_im.wrapping_mul(i));
+        }
+    }
+    (plain_part(re), plain_part(im))
+}
+
+#[test]
+fn echoes_of_each_length(rt: HostRuntime) -> Result<(), Fail> {
+    let samples = samples();
+    let taps = Taps::read("1 30 -20; 2 -40 0; 4 10 10; 7 0 -146").map_err(|_| "no taps")?;
+    let pairs = [
+        (0, 1024, 0),
+        (1, 30, -20),
+        (2, -40, 0),
+        (4, 10, 10),
+        (7, 0, -146),
+    ];
+    for count in 0..68 {
+        let echo = taps.apply(rt.alloc(), &samples[..count])?;
+        assert_eq!(rt; echo.len(), count + 7);
+        for (place, sample) in echo.iter().enumerate() {
+            let (i, q) = plain_sample(&pairs, &samples[..count], place);
+            assert!(rt;
+                i64::from(sample.i) == i && i64::from(sample.q) == q,
+                "{count} {place}"
+            );
+        }
+    }
+    Ok(())
+}
