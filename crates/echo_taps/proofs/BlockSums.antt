@@ -1,7 +1,6 @@
 -- What comes together at four places and at sixteen, delay by delay.
-use Rattle.std.proofs.Common.{◌≡◌, ℕ, zero, suc, ◌+◌, ◌-◌, ◌*◌, ◌^◌, ◌<◌, ◌≤◌, List, [], ◌∷◌, ◌++◌, map, ℤ, pos, neg_ℤ, ◌+ℤ◌, ◌-ℤ◌, ◌*ℤ◌, to_z, of_z, refl, sym, ap, ◌∙◌, arith}
-use Rattle.std.specs.Prelude.{FitsSigned, unsigned_abs}
-use Rattle.std.specs.List.{range_with_len, slice_range}
+use Rattle.std.proofs.Common.{◌≡◌, ℕ, zero, suc, ◌+◌, ◌-◌, ◌*◌, ◌^◌, ◌<◌, ◌≤◌, List, [], ◌∷◌, ◌++◌, ℤ, pos, neg_ℤ, ◌+ℤ◌, ◌-ℤ◌, ◌*ℤ◌, to_z, of_z, refl, sym, ap, ◌∙◌, arith}
+use Rattle.std.specs.Prelude.{unsigned_abs}
 use Rattle.std.proofs.lemmas.Bool.{le-ltb}
 use Rattle.std.proofs.lemmas.Int.{ints, to_z-of_z}
 use Rattle.std.proofs.lemmas.List.{append_assoc}
@@ -19,7 +18,7 @@ use Rattle.fixed_complex.specs.Rounding.{half_up}
 use Rattle.fixed_complex.specs.Samples.{pair_of, sample_at}
 use Rattle.lane_kernels.specs.Lanes.{AreOf16Bits, components_of, eight, four}
 use Rattle.lane_kernels.proofs.Bounds.{size-le}
-use Rattle.lane_kernels.proofs.FourLanes.{first_four, four-each}
+use Rattle.lane_kernels.proofs.FourLanes.{four-each}
 use Rattle.lane_kernels.proofs.Holding.{held-fits}
 use Rattle.lane_kernels.proofs.Parts.{IsOf16Bits}
 use Rattle.lane_kernels.proofs.Totals.{eight-each}

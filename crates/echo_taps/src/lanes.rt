@@ -34,7 +34,8 @@ struct TapLanes {
     im: [i16; 8],
 }
 
-// What comes together at sixteen places, from the seventh on.
+// What comes together at sixteen places, from the seventh on. There is no loop over the delays, so one without a tap costs
+// a test alone.
 #[inline(always)]
 pub(crate) fn block_sums(pairs: &[Cx; 8], samples: &[Sample], place: usize) -> Block
     requires pairs { PairsWithin 1024 pairs.now }
@@ -46,17 +47,20 @@ pub(crate) fn block_sums(pairs: &[Cx; 8], samples: &[Sample], place: usize) -> B
         re: [0; 4],
         im: [0; 4],
     };
-    let mut block = Block {
+    let block = Block {
         first: none,
         second: none,
         third: none,
         fourth: none,
     };
-    for late in 0..8 {
-        let summed = add_block(block, pairs, late, samples, place);
-        block = summed;
-    }
-    block
+    let block = add_block(block, pairs, 0, samples, place);
+    let block = add_block(block, pairs, 1, samples, place);
+    let block = add_block(block, pairs, 2, samples, place);
+    let block = add_block(block, pairs, 3, samples, place);
+    let block = add_block(block, pairs, 4, samples, place);
+    let block = add_block(block, pairs, 5, samples, place);
+    let block = add_block(block, pairs, 6, samples, place);
+    add_block(block, pairs, 7, samples, place)
 }
 
 // Sixteen sums with the products of one delay more.

@@ -1,6 +1,6 @@
 use Rattle.std.proofs.Common.{ap, ◌++◌, ◌∙◌}
 use Rattle.echo_taps.specs.Blocks.{echo_below}
-use Rattle.echo_taps.proofs.BlockSums.{block_more, sums_within}
+use Rattle.echo_taps.proofs.BlockSums.{block_more}
 use Rattle.echo_taps.proofs.echoes.push_block.Goals as goal
 
 pub returns : goal.returns
