@@ -31,7 +31,7 @@ pub(crate) fn echo(
     Ok(echo)
 }
 
-// Appends the samples of the echo from the seventh place on, so many times sixteen.
+// Appends samples of the echo from place 7 on, so many times sixteen.
 fn push_blocks(
     echo: &mut Vec<Sample>,
     pairs: &[Cx; 8],

@@ -34,8 +34,8 @@ struct TapLanes {
     im: [i16; 8],
 }
 
-// What comes together at sixteen places, from the seventh on. There is no loop over the delays, so one without a tap costs
-// a test alone.
+// What comes together at sixteen places, of which the first is at least 7. There is no loop over the delays, so one without
+// a tap costs a test alone.
 #[inline(always)]
 pub(crate) fn block_sums(pairs: &[Cx; 8], samples: &[Sample], place: usize) -> Block
     requires pairs { PairsWithin 1024 pairs.now }
