@@ -26,7 +26,7 @@ pub bit_xor_is : (a b : ℕ) → IsBit a → IsBit b → bit_xor a b ≡ exclusi
 bit_xor_is = on_two_bits (λ a b. bit_xor a b ≡ exclusive_or a b) refl refl refl refl
 
 -- the bits of octets are bits
-AreBits-bits_of_octet : (octet : ℕ) → AreBits (bits_of_octet octet)
+pub AreBits-bits_of_octet : (octet : ℕ) → AreBits (bits_of_octet octet)
 unfolding bits_of_octet
 AreBits-bits_of_octet octet = All-map IsBit (bit_at octet) (range_with_len 0 8) (λ k d within. omega arith)
 

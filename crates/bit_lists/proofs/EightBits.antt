@@ -1,6 +1,10 @@
 -- Octets from their bits, and back.
+use lib.Lanes.{top}
+use lib.Dec.{ltb}
+use lib.Bits.{bit_and}
+use mathlib.Core.Bool.{cond}
 use Rattle.std.proofs.Common.{◌≡◌, ℕ, zero, suc, ◌+◌, ◌*◌, ◌/◌, ◌%◌, ◌<◌, ◌≤◌, true, nat_eq, List, [], ◌∷◌, ◌++◌, length, map, get_or, take, drop, append-nil, length-append, ap, sym, ◌∙◌, refl, arith, lit<}
-use Rattle.std.proofs.lemmas.Bool.{agree_below_at, eqb-true}
+use Rattle.std.proofs.lemmas.Bool.{agree_below, agree_below_at, eqb-true}
 use Rattle.std.proofs.lemmas.List.{ext_get_or}
 use Rattle.std.proofs.lemmas.List.FromFn.{map-range_with_len_more, length-map-range_with_len, get_or-map-range_with_len}
 use Rattle.std.proofs.lemmas.List.{get_or-take, get_or-drop, length-take-le, length-drop}
@@ -136,3 +140,17 @@ octet_of_part bits p n eight =
     let at7 = at 7 (lit< tt) in
     ap (λ n. octet_at (take n (drop p bits)) 0) eight
     ∙ octet_is part 0 ∙ rw (at0, at1, at2, at3, at4, at5, at6, at7) (sym (octet_is bits p))
+
+-- what is left of an octet at the place that is worth so much: 0 or 1
+abbrev pub left_at : ℕ → ℕ → ℕ
+left_at octet worth = cond (top 7 (cond (ltb (bit_and octet worth) 1) 255 0)) (bit_and octet worth) 1
+
+-- what is left of an octet at its eight places is its bits
+pub left_is : (octet : ℕ) → octet < 256 → left_at octet 1 ∷ left_at octet 2 ∷ left_at octet 4 ∷ left_at octet 8 ∷ left_at octet 16 ∷ left_at octet 32 ∷ left_at octet 64 ∷ left_at octet 128 ∷ [] ≡ bits_of_octet octet
+unfolding bits_of_octet
+left_is octet lt =
+    let left = left_at octet 1 ∷ left_at octet 2 ∷ left_at octet 4 ∷ left_at octet 8 ∷ left_at octet 16 ∷ left_at octet 32 ∷ left_at octet 64 ∷ left_at octet 128 ∷ [] in
+    let at : (worth i : ℕ) → agree_below (λ o. nat_eq (left_at o worth) (bit_at o i)) (λ o. true) 256 ≡ true → left_at octet worth ≡ bit_at octet i =
+    λ worth i agree. eqb-true _ _ (agree_below_at (λ o. nat_eq (left_at o worth) (bit_at o i)) (λ o. true) 256 octet agree lt) in
+    ext_get_or 0 left (bits_of_octet octet) refl
+    (λ i small. at_eight (λ i. get_or left i 0 ≡ get_or (bits_of_octet octet) i 0) (at 1 0 refl) (at 2 1 refl) (at 4 2 refl) (at 8 3 refl) (at 16 4 refl) (at 32 5 refl) (at 64 6 refl) (at 128 7 refl) i small)

@@ -11,6 +11,7 @@ use byte_lanes::differences;
 use character_texts::without_newline;
 use std::alloc::{AllocError, Global};
 use std::marker::Model;
+use std::simd::prelude::*;
 use thiserror::Error;
 
 pub mod laws;
@@ -24,7 +25,7 @@ pub fn bits_of(alloc: Global, bytes: &[u8]) -> Result<Vec<u8>, AllocError>
     ensures bits { IfOk result (λ bits. AreBits bits.items) }
     ensures len { IfOk result (λ bits. vec_len bits ≡ 8 * length bytes.now) }
 {
-    let mut bits = Vec::new(alloc);
+    let mut bits = Vec::with_capacity(alloc, bytes.len().saturating_mul(8))?;
     for byte in bytes {
         push_octet(&mut bits, *byte)?;
     }
@@ -196,10 +197,19 @@ fn push_octet(bits: &mut Vec<u8>, octet: u8) -> Result<(), AllocError>
     ensures len { OnOk result (vec_len bits.new ≡ vec_len bits.old + 8) }
     ensures bits { AreBits bits.old.items → OnOk result (AreBits bits.new.items) }
 {
-    for k in 0..8u8 {
-        bits.push((octet >> k) & 1)?;
-    }
+    bits.extend_from_slice(&bits_in(octet))?;
     Ok(())
+}
+
+// The eight bits of an octet, all at once: what is left of it at each place, which is 0 where the bit is 0.
+#[inline(always)]
+fn bits_in(octet: u8) -> [u8; 8]
+    ensures { result ≡ bits_of_octet octet }
+{
+    let places = u8x8::from_array([1, 2, 4, 8, 16, 32, 64, 128]);
+    (u8x8::splat(octet) & places)
+        .simd_min(u8x8::splat(1))
+        .to_array()
 }
 
 #[cfg(test)]
