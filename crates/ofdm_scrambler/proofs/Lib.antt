@@ -1,2 +1,3 @@
 pub mod LastSeven
 pub mod Fronts
+pub mod Period

@@ -1,7 +1,7 @@
 //! The scrambler of the DATA field: its seed and its sequence (IEEE Std 802.11-2012, 18.3.5.5).
 #![tactic(auto)]
 
-ghost use Rattle.std.specs.Prelude.{◌≡◌, ℕ, ◌≤◌, ◌<◌, ◌↔◌, ◌*◌, ◌+◌, ◌%◌, length, replicate, IsSome, IfSome};
+ghost use Rattle.std.specs.Prelude.{◌≡◌, ℕ, ◌≤◌, ◌<◌, ◌↔◌, ◌*◌, ◌+◌, ◌%◌, length, replicate, slice_index, bit_xor, IsSome, IfSome};
 ghost use Rattle.bit_lists.specs.Bits.{AreBits, IsBit, exclusive_or};
 ghost use Rattle.std.specs.Int.{bit_at};
 ghost use Rattle.ofdm_scrambler.specs.Sequence.{IsSeed, scrambler_sequence, scrambled};
@@ -9,6 +9,9 @@ ghost use Rattle.ofdm_scrambler.specs.Sequence.{IsSeed, scrambler_sequence, scra
 use std::marker::Model;
 
 pub mod laws;
+
+// After how many places the sequence comes again.
+const PERIOD: usize = 127;
 
 /// The seed of a scrambler: seven bits x1 to x7, not all 0, of which x_i is bit i - 1 of its number, 1 to 127 (the
 /// number is own).
@@ -99,9 +102,26 @@ pub fn scramble_in_place(seed: Seed, bits: &mut [u8])
     ensures values { bits.new ≡ scrambled seed bits.old }
     ensures bits { AreBits bits.new }
 {
-    let mut register = Register::before_first(seed);
-    for bit in bits.iter_mut() {
-        *bit ^= register.next_bit();
+    let mut period = [0; PERIOD];
+    sequence(seed, &mut period);
+    for begun in 0..bits.len() / PERIOD + 1 {
+        let place = PERIOD * begun;
+        let count = PERIOD.min(bits.len() - place);
+        scramble_piece(bits, &period, place, count);
+    }
+}
+
+// Changes so many bits from a place on to their exclusive or with the first bits of a period.
+fn scramble_piece(bits: &mut [u8], period: &[u8; 127], place: usize, count: usize)
+    requires piece { place + count ≤ length bits.old }
+    requires within { count ≤ 127 }
+    ensures changed { (k : ℕ) → k < count
+        → slice_index bits.new (place + k) ≡ bit_xor (slice_index bits.old (place + k)) (slice_index period.now k) }
+    ensures before { (n : ℕ) → n < place → slice_index bits.new n ≡ slice_index bits.old n }
+    ensures behind { (n : ℕ) → place + count ≤ n → slice_index bits.new n ≡ slice_index bits.old n }
+{
+    for k in 0..count {
+        bits[place + k] ^= period[k];
     }
 }
 
