@@ -1,19 +1,11 @@
 -- The Gray code of places and the bits of levels.
-use Rattle.std.proofs.Common.{◌≡◌, ℕ, zero, suc, ◌+◌, ◌*◌, ◌/◌, ◌%◌, ◌^◌, ◌<◌, ◌≤◌, Bool, true, ◌&&◌, eqb, List, [], ◌∷◌, length, slice_index_or, ℤ, refl, arith}
+use Rattle.std.proofs.Common.{◌≡◌, ℕ, zero, suc, ◌/◌, ◌^◌, ◌<◌, ◌≤◌, Bool, true, ◌&&◌, eqb, [], ◌∷◌, slice_index_or, ℤ, refl, arith}
 use Rattle.std.specs.Prelude.{bit_and, bit_xor}
-use Rattle.std.specs.List.{fold}
 use Rattle.std.proofs.lemmas.Bool.{agree_below, agree_below_at, and_parts, eqb-true}
-use Rattle.bit_lists.specs.Bits.{AreBits}
-use Rattle.rate_table.specs.declared.Modulation.{Modulation}
 use Rattle.rate_table.specs.declared.Modulation.TheVariants.{Bpsk, Qpsk, Qam16, Qam64}
 use Rattle.fixed_complex.specs.declared.Cx.{Cx}
-use Rattle.constellations.proofs.BitCases.{one_bit, two_bits, three_bits}
 use Rattle.constellations.specs.Decisions.{decided, thresholds_below}
-use Rattle.constellations.specs.Axes.{axis_width, gray_bit, level_bits, place_of}
-
--- one bit more of the Gray code, read from the most significant on
-abbrev pub gray_step : ℕ → ℕ → ℕ
-gray_step place bit = 2 * place + bit_xor place bit % 2
+use Rattle.constellations.specs.Axes.{gray_bit, level_bits}
 
 -- what the code computes as a bit of the Gray code
 abbrev computed_bit : ℕ → ℕ → ℕ
@@ -30,18 +22,6 @@ computed_bit-gray place zero h _ = eqb-true _ _ (and_parts _ _ (agree_below_at a
 computed_bit-gray place (suc zero) h _ = eqb-true _ _ (and_parts _ _ (and_parts _ _ (agree_below_at agrees_at (λ _. true) 8 place agrees h)).1).0
 computed_bit-gray place (suc (suc zero)) h _ = eqb-true _ _ (and_parts _ _ (and_parts _ _ (agree_below_at agrees_at (λ _. true) 8 place agrees h)).1).1
 computed_bit-gray place (suc (suc (suc bit))) h k = absurd (omega arith)
-
--- the bits of a level are the Gray code of its place
-abbrev pub Decodes : Modulation → List ℕ → Type 0
-Decodes modulation bits = (fold gray_step 0 bits ≡ place_of modulation bits) × (place_of modulation bits < length (level_bits modulation))
-
-pub decodes : (modulation : Modulation) (bits : List ℕ) → AreBits bits → length bits ≡ axis_width modulation → Decodes modulation bits
-unfolding place_of
-decodes Bpsk = one_bit (Decodes Bpsk) (refl, omega arith) (refl, omega arith)
-decodes Qpsk = one_bit (Decodes Qpsk) (refl, omega arith) (refl, omega arith)
-decodes Qam16 = two_bits (Decodes Qam16) (refl, omega arith) (refl, omega arith) (refl, omega arith) (refl, omega arith)
-decodes Qam64 =
-    three_bits (Decodes Qam64) (refl, omega arith) (refl, omega arith) (refl, omega arith) (refl, omega arith) (refl, omega arith) (refl, omega arith) (refl, omega arith) (refl, omega arith)
 
 -- the bits of the levels, from the lowest on, are the Gray code of their places
 levels_2 : (p : ℕ) → p ≤ 1 → slice_index_or (level_bits Bpsk) p [] ≡ gray_bit p 0 ∷ []

@@ -5,7 +5,8 @@
 ghost use Rattle.std.specs.Prelude.{◌≡◌, ◌+◌, ◌-◌, ◌*◌, ◌^◌, ◌<◌, ◌≤◌, length, ℤ, pos, ◌≤ℤ◌, unsigned_abs};
 ghost use Rattle.bit_lists.specs.Bits.{AreBits};
 ghost use Rattle.fixed_complex.specs.Pairs.{IsWithin};
-ghost use Rattle.constellations.specs.Axes.{amplitude_of, axis_of, axis_width, gray_bit, level_bits, place_of};
+ghost use Rattle.rate_table.specs.Table.{bits_of_modulation};
+ghost use Rattle.constellations.specs.Axes.{axis_of, axis_width, gray_bit};
 ghost use Rattle.constellations.specs.Decisions.{decided, lies_above, thresholds, thresholds_below};
 ghost use Rattle.constellations.specs.Points.{point_of};
 
@@ -20,6 +21,17 @@ pub use carrier_bins::{bin, data_carrier};
 /// 18.3.5.8; the amplitudes are own).
 pub fn point(modulation: Modulation, bits: &[u8; 6]) -> Cx
     requires { AreBits bits.now }
+    ensures point { result ≡ point_of modulation bits.now }
+    ensures within { IsWithin 700 result }
+{
+    carrier_point(modulation, bits)
+}
+
+/// The same of as many bits as a carrier has, N_BPSC of them, or more, each 0 or 1 (IEEE Std 802.11-2012, 18.3.5.8; the
+/// amplitudes are own).
+pub fn carrier_point(modulation: Modulation, bits: &[u8]) -> Cx
+    requires bits { AreBits bits.now }
+    requires enough { bits_of_modulation modulation ≤ length bits.now }
     ensures point { result ≡ point_of modulation bits.now }
     ensures within { IsWithin 700 result }
 {
@@ -97,28 +109,29 @@ pub fn decide_wide(modulation: Modulation, re: i128, im: i128, m: i128) -> [u8; 
 }
 
 // An axis of a point: the level of its bits, in the modulation's amplitude.
+#[inline(always)]
 fn axis(modulation: Modulation, bits: &[u8]) -> i64
     requires bits { AreBits bits.now }
     requires width { length bits.now ≡ axis_width modulation }
     ensures axis { result ≡ axis_of modulation bits.now }
     ensures within { unsigned_abs result ≤ 700 }
 {
-    amplitude(modulation) * (2 * i64::from(place(modulation, bits)) - highest(modulation))
+    match modulation {
+        Modulation::Bpsk => AXES_BPSK[usize::from(bits[0])],
+        Modulation::Qpsk => AXES_QPSK[usize::from(bits[0])],
+        Modulation::Qam16 => AXES_16[usize::from(2 * bits[0] + bits[1])],
+        Modulation::Qam64 => AXES_64[usize::from(4 * bits[0] + 2 * bits[1] + bits[2])],
+    }
 }
 
-// The place of an axis's level, counted from 0 at the lowest: the bits are the Gray code of the place.
-fn place(modulation: Modulation, bits: &[u8]) -> u8
-    requires bits { AreBits bits.now }
-    requires width { length bits.now ≡ axis_width modulation }
-    ensures place { result ≡ place_of modulation bits.now }
-    ensures within { result < length (level_bits modulation) }
-{
-    let mut place = 0;
-    for bit in bits {
-        place = 2 * place + (place ^ *bit) % 2;
-    }
-    place
-}
+// The axes of the modulations by their bits, the first bit being the most significant.
+static AXES_BPSK: [i64; 2] = [-648, 648];
+
+static AXES_QPSK: [i64; 2] = [-458, 458];
+
+static AXES_16: [i64; 4] = [-615, -205, 615, 205];
+
+static AXES_64: [i64; 8] = [-700, -500, -100, -300, 700, 500, 100, 300];
 
 // A bit of the Gray code of a place, 0 being the least significant.
 fn gray_bit(place: u8, bit: u32) -> u8
@@ -154,29 +167,6 @@ fn lies_above(part: i128, m: i128, threshold: i64) -> bool
     ensures { result ≡ lies_above part m threshold }
 {
     1296 * part >= i128::from(threshold) * m
-}
-
-// The highest level. The lowest is its negative, and neighbours are 2 apart.
-fn highest(modulation: Modulation) -> i64
-    ensures { result ≡ pos (length (level_bits modulation) - 1) }
-{
-    match modulation {
-        Modulation::Bpsk | Modulation::Qpsk => 1,
-        Modulation::Qam16 => 3,
-        Modulation::Qam64 => 7,
-    }
-}
-
-// The size of level 1.
-fn amplitude(modulation: Modulation) -> i64
-    ensures { result ≡ pos (amplitude_of modulation) }
-{
-    match modulation {
-        Modulation::Bpsk => 648,
-        Modulation::Qpsk => 458,
-        Modulation::Qam16 => 205,
-        Modulation::Qam64 => 100,
-    }
 }
 
 // The thresholds of an axis, halfway between neighbouring levels.

@@ -1,7 +1,7 @@
 use Rattle.std.proofs.Common.{SFits, w64, refl, rules}
 use Rattle.std.proofs.lemmas.Int.{to_z-of_z}
 use Rattle.constellations.specs.Points.{point_of}
-use Rattle.constellations.proofs.point.Goals as goal
+use Rattle.constellations.proofs.carrier_point.Goals as goal
 
 pub returns-in-Bpsk-clause-point : goal.returns-in-Bpsk-clause-point
 unfolding point_of
