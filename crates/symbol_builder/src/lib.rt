@@ -3,16 +3,14 @@
 
 ghost use Rattle.std.specs.Prelude.{◌≡◌, ◌+◌, ◌*◌, ◌%◌, length, take};
 ghost use Rattle.bit_lists.specs.Bits.{AreBits};
-ghost use Rattle.fixed_complex.specs.Pairs.{IsWithin};
-ghost use Rattle.constellations.specs.Points.{point_of};
 ghost use Rattle.fixed_complex.specs.PairLists.{PairsWithin};
 ghost use Rattle.rate_table.specs.declared.Rate.{Rate};
-ghost use Rattle.rate_table.specs.Table.{bits_of_modulation, row_of};
+ghost use Rattle.rate_table.specs.Table.{row_of};
 ghost use Rattle.rate_table.specs.Symbols.{IsLength, symbol_count};
 ghost use Rattle.symbol_builder.specs.Carriers.{polarity_of};
 ghost use Rattle.symbol_builder.specs.Points.{points_of};
 
-use constellations::point;
+use constellations::carrier_point;
 use fixed_complex::Cx;
 use rate_table::{Modulation, Rate};
 
@@ -59,21 +57,9 @@ pub fn symbol_points(modulation: Modulation, bits: &[u8; 288]) -> [Cx; 48]
     let width = modulation.bits_per_carrier();
     let mut points = [Cx { re: 0, im: 0 }; 48];
     for d in 0..48 {
-        points[d] = point_of_bits(modulation, &bits[width * d..width * d + width]);
+        points[d] = carrier_point(modulation, &bits[width * d..width * d + width]);
     }
     points
-}
-
-// The point of the N_BPSC bits of a carrier.
-fn point_of_bits(modulation: Modulation, bits: &[u8]) -> Cx
-    requires bits { AreBits bits.now }
-    requires width { length bits.now ≡ bits_of_modulation modulation }
-    ensures point { result ≡ point_of modulation bits.now }
-    ensures within { IsWithin 700 result }
-{
-    let mut entries = [0; 6];
-    entries[..bits.len()].copy_from_slice(bits);
-    point(modulation, &entries)
 }
 
 /// p_n, the polarity of the pilots of symbol n, with period 127: 1 or -1 (IEEE Std 802.11-2012, 18.3.5.10). SIGNAL has

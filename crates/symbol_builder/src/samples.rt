@@ -59,8 +59,7 @@ fn with_prefix(body: &[Sample; 64]) -> [Sample; 80]
     ensures { result ≡ symbol_times (sample_at body.now) }
 {
     let mut samples = [Sample { i: 0, q: 0 }; 80];
-    for time in 0..80 {
-        samples[time] = body[(time + 48) % 64];
-    }
+    samples[..16].copy_from_slice(&body[48..]);
+    samples[16..].copy_from_slice(body);
     samples
 }

@@ -14,12 +14,12 @@ loop-d-preserved c =
       points =
           below_more _ _
           (λ k lt. let other : k ≢ c.loop-d.d = omega arith in rw get_or-set_other (before.points k lt))
-          (rw get_or-set_same (c.point_of_bits.ensures.point ∙ group_is c.args.modulation c.args.bits.now c.bits_per_carrier-width.result c.loop-d.d c.bits_per_carrier-width.ensures.value));
+          (rw get_or-set_same (c.carrier_point.ensures.point ∙ group_is c.args.modulation c.args.bits.now c.bits_per_carrier-width.result c.loop-d.d c.bits_per_carrier-width.ensures.value));
       within =
           below_more _ _
           (λ k lt. let other : k ≢ c.loop-d.d = omega arith in rw get_or-set_other (before.within k lt))
-          (rw get_or-set_same c.point_of_bits.ensures.within);
-      long = length-set c.loop-d.points c.loop-d.d c.point_of_bits.result ∙ before.long;
+          (rw get_or-set_same c.carrier_point.ensures.within);
+      long = length-set c.loop-d.points c.loop-d.d c.carrier_point.result ∙ before.long;
     }
 
 points : (c : goal.After-loop-d) → c.loop-d.points ≡ points_of c.args.modulation c.args.bits.now
