@@ -7,9 +7,10 @@ ghost use Rattle.fixed_complex.specs.Turns.{turn_at};
 ghost use Rattle.butterfly64.specs.StagedSums.{up_at, down_at, up_sums, down_sums};
 ghost use Rattle.fixed_complex.specs.PairLists.{entry, PairsWithin, PairsOfSize};
 ghost use Rattle.butterfly64.specs.MirrorOrder.{mirror_of};
+ghost use Rattle.butterfly64.specs.Rows.{RowsOfSize, place_in};
 
 use crate::many_eights::{down_eights, eights, pairs, up_eights};
-use crate::stages::{join_rows, part_rows, row_pairs, rows};
+use crate::stages::{join_rows, part_rows, row_pairs};
 use fixed_complex::{Cx, add, conj, scaled, sub, turn};
 
 mod eights;
@@ -20,6 +21,9 @@ mod many_eights;
 mod row_turns;
 mod rows;
 mod stages;
+
+pub use rows::Row;
+pub use stages::rows_of;
 
 /// The staged sums `up` of 64 pairs whose components are at most 2^30 in size: at place n about the sum over c of
 /// x(c) * T[c*n] / 2^20, rounded at each of six joins (own). Works in lanes. Takes no memory.
@@ -40,7 +44,16 @@ pub fn up_words(x: &[Cx; 64]) -> [Cx; 64]
     ensures sums { result ≡ up_sums x.now }
     ensures within { PairsWithin (2 ^ 31 - 1) result }
 {
-    let mut even = rows(x);
+    row_pairs(&up_rows(&rows_of(x)))
+}
+
+/// The same as `up`, of 64 pairs of words in eight rows, at most 2^24 in size. Works in lanes of 32 bits. Takes no memory.
+pub fn up_rows(x: &[Row; 8]) -> [Row; 8]
+    requires { RowsOfSize (2 ^ 24) x.now }
+    ensures sums { (n : ℕ) → n < 64 → place_in result n ≡ up_at 6 (place_in x.now) n }
+    ensures sizes { RowsOfSize (65 * 2 ^ 24 + 256) result }
+{
+    let mut even = *x;
     let mut odd = even;
     join_rows(&even, &mut odd, 0);
     join_rows(&odd, &mut even, 1);
@@ -48,7 +61,7 @@ pub fn up_words(x: &[Cx; 64]) -> [Cx; 64]
     join_rows(&odd, &mut even, 3);
     join_rows(&even, &mut odd, 4);
     join_rows(&odd, &mut even, 5);
-    row_pairs(&even)
+    even
 }
 
 /// The staged sums `down` of 64 pairs whose components are at most 2^30 in size: at place c about the sum over n of
@@ -70,7 +83,7 @@ pub fn down_words(x: &[Cx; 64]) -> [Cx; 64]
     ensures sums { result ≡ down_sums x.now }
     ensures within { PairsWithin (2 ^ 31 - 1) result }
 {
-    let mut even = rows(x);
+    let mut even = rows_of(x);
     let mut odd = even;
     part_rows(&even, &mut odd, 0);
     part_rows(&odd, &mut even, 1);

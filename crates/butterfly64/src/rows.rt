@@ -7,11 +7,11 @@ ghost use Rattle.butterfly64.specs.Rows.{RowOfSize, RowOfTurns, row_lane};
 use crate::lanes::{Eight, scaled_back_lanes, scaled_lanes};
 use std::simd::prelude::*;
 
-// Eight pairs of words.
+/// Eight pairs of words, each in a lane (own).
 #[derive(Clone, Copy)]
-pub(crate) struct Row {
-    pub(crate) re: [i32; 8],
-    pub(crate) im: [i32; 8],
+pub struct Row {
+    pub re: [i32; 8],
+    pub im: [i32; 8],
 }
 
 // The sums and the differences of eight pairs and the turns of eight others.

@@ -124,8 +124,9 @@ fn one_apart(a: &Row, b: &Row) -> (Row, Row)
     (lower, upper)
 }
 
-// 64 pairs of words, in rows.
-pub(crate) fn rows(x: &[Cx; 64]) -> [Row; 8]
+/// 64 pairs of words, each component at most 2^31 - 1 in size, in eight rows: pair n in lane n % 8 of row n / 8 (own). Takes
+/// no memory.
+pub fn rows_of(x: &[Cx; 64]) -> [Row; 8]
     requires { PairsWithin (2 ^ 31 - 1) x.now }
     ensures { (n : ℕ) → n < 64 → place_in result n ≡ entry x.now n }
 {

@@ -11,34 +11,34 @@ use Rattle.butterfly64.proofs.down_words.Goals as goal
 
 pub part_rows-requires-clause-sizes : goal.part_rows-requires-clause-sizes
 part_rows-requires-clause-sizes c =
-    let z0 = sized-first c.args.x.now c.rows-even.result c.requires c.rows-even.ensures in
-    rows_wider (grown_by 0 (2 ^ 24)) (2 ^ 29 + 2 ^ 14) c.rows-even.result (omega arith) z0
+    let z0 = sized-first c.args.x.now c.rows_of-even.result c.requires c.rows_of-even.ensures in
+    rows_wider (grown_by 0 (2 ^ 24)) (2 ^ 29 + 2 ^ 14) c.rows_of-even.result (omega arith) z0
 
 pub part_rows-requires-2-clause-sizes : goal.part_rows-requires-2-clause-sizes
 part_rows-requires-2-clause-sizes c =
-    let z0 = sized-first c.args.x.now c.rows-even.result c.requires c.rows-even.ensures in
-    let z1 = sized-next 0 (grown_by 0 (2 ^ 24)) c.rows-even.result c.part_rows.new.y (omega arith) z0 c.part_rows.ensures in
+    let z0 = sized-first c.args.x.now c.rows_of-even.result c.requires c.rows_of-even.ensures in
+    let z1 = sized-next 0 (grown_by 0 (2 ^ 24)) c.rows_of-even.result c.part_rows.new.y (omega arith) z0 c.part_rows.ensures in
     rows_wider (grown_by 1 (2 ^ 24)) (2 ^ 29 + 2 ^ 14) c.part_rows.new.y (omega arith) z1
 
 pub part_rows-requires-3-clause-sizes : goal.part_rows-requires-3-clause-sizes
 part_rows-requires-3-clause-sizes c =
-    let z0 = sized-first c.args.x.now c.rows-even.result c.requires c.rows-even.ensures in
-    let z1 = sized-next 0 (grown_by 0 (2 ^ 24)) c.rows-even.result c.part_rows.new.y (omega arith) z0 c.part_rows.ensures in
+    let z0 = sized-first c.args.x.now c.rows_of-even.result c.requires c.rows_of-even.ensures in
+    let z1 = sized-next 0 (grown_by 0 (2 ^ 24)) c.rows_of-even.result c.part_rows.new.y (omega arith) z0 c.part_rows.ensures in
     let z2 = sized-next 1 (grown_by 1 (2 ^ 24)) c.part_rows.new.y c.part_rows-2.new.y (omega arith) z1 c.part_rows-2.ensures in
     rows_wider (grown_by 2 (2 ^ 24)) (2 ^ 29 + 2 ^ 14) c.part_rows-2.new.y (omega arith) z2
 
 pub part_rows-requires-4-clause-sizes : goal.part_rows-requires-4-clause-sizes
 part_rows-requires-4-clause-sizes c =
-    let z0 = sized-first c.args.x.now c.rows-even.result c.requires c.rows-even.ensures in
-    let z1 = sized-next 0 (grown_by 0 (2 ^ 24)) c.rows-even.result c.part_rows.new.y (omega arith) z0 c.part_rows.ensures in
+    let z0 = sized-first c.args.x.now c.rows_of-even.result c.requires c.rows_of-even.ensures in
+    let z1 = sized-next 0 (grown_by 0 (2 ^ 24)) c.rows_of-even.result c.part_rows.new.y (omega arith) z0 c.part_rows.ensures in
     let z2 = sized-next 1 (grown_by 1 (2 ^ 24)) c.part_rows.new.y c.part_rows-2.new.y (omega arith) z1 c.part_rows-2.ensures in
     let z3 = sized-next 2 (grown_by 2 (2 ^ 24)) c.part_rows-2.new.y c.part_rows-3.new.y (omega arith) z2 c.part_rows-3.ensures in
     rows_wider (grown_by 3 (2 ^ 24)) (2 ^ 29 + 2 ^ 14) c.part_rows-3.new.y (omega arith) z3
 
 pub part_rows-requires-5-clause-sizes : goal.part_rows-requires-5-clause-sizes
 part_rows-requires-5-clause-sizes c =
-    let z0 = sized-first c.args.x.now c.rows-even.result c.requires c.rows-even.ensures in
-    let z1 = sized-next 0 (grown_by 0 (2 ^ 24)) c.rows-even.result c.part_rows.new.y (omega arith) z0 c.part_rows.ensures in
+    let z0 = sized-first c.args.x.now c.rows_of-even.result c.requires c.rows_of-even.ensures in
+    let z1 = sized-next 0 (grown_by 0 (2 ^ 24)) c.rows_of-even.result c.part_rows.new.y (omega arith) z0 c.part_rows.ensures in
     let z2 = sized-next 1 (grown_by 1 (2 ^ 24)) c.part_rows.new.y c.part_rows-2.new.y (omega arith) z1 c.part_rows-2.ensures in
     let z3 = sized-next 2 (grown_by 2 (2 ^ 24)) c.part_rows-2.new.y c.part_rows-3.new.y (omega arith) z2 c.part_rows-3.ensures in
     let z4 = sized-next 3 (grown_by 3 (2 ^ 24)) c.part_rows-3.new.y c.part_rows-4.new.y (omega arith) z3 c.part_rows-4.ensures in
@@ -46,8 +46,8 @@ part_rows-requires-5-clause-sizes c =
 
 pub part_rows-requires-6-clause-sizes : goal.part_rows-requires-6-clause-sizes
 part_rows-requires-6-clause-sizes c =
-    let z0 = sized-first c.args.x.now c.rows-even.result c.requires c.rows-even.ensures in
-    let z1 = sized-next 0 (grown_by 0 (2 ^ 24)) c.rows-even.result c.part_rows.new.y (omega arith) z0 c.part_rows.ensures in
+    let z0 = sized-first c.args.x.now c.rows_of-even.result c.requires c.rows_of-even.ensures in
+    let z1 = sized-next 0 (grown_by 0 (2 ^ 24)) c.rows_of-even.result c.part_rows.new.y (omega arith) z0 c.part_rows.ensures in
     let z2 = sized-next 1 (grown_by 1 (2 ^ 24)) c.part_rows.new.y c.part_rows-2.new.y (omega arith) z1 c.part_rows-2.ensures in
     let z3 = sized-next 2 (grown_by 2 (2 ^ 24)) c.part_rows-2.new.y c.part_rows-3.new.y (omega arith) z2 c.part_rows-3.ensures in
     let z4 = sized-next 3 (grown_by 3 (2 ^ 24)) c.part_rows-3.new.y c.part_rows-4.new.y (omega arith) z3 c.part_rows-4.ensures in
@@ -57,8 +57,8 @@ part_rows-requires-6-clause-sizes c =
 pub returns-clause-sums : goal.returns-clause-sums
 returns-clause-sums c =
     let x = entry c.args.x.now in
-    let s0 = lies-first x (place_in c.rows-even.result) c.rows-even.ensures in
-    let s1 = parted_1 x (place_in c.rows-even.result) (place_in c.part_rows.new.y) s0 c.part_rows.ensures in
+    let s0 = lies-first x (place_in c.rows_of-even.result) c.rows_of-even.ensures in
+    let s1 = parted_1 x (place_in c.rows_of-even.result) (place_in c.part_rows.new.y) s0 c.part_rows.ensures in
     let s2 = parted_2 x (place_in c.part_rows.new.y) (place_in c.part_rows-2.new.y) s1 c.part_rows-2.ensures in
     let s3 = parted_3 x (place_in c.part_rows-2.new.y) (place_in c.part_rows-3.new.y) s2 c.part_rows-3.ensures in
     let s4 = parted_4 x (place_in c.part_rows-3.new.y) (place_in c.part_rows-4.new.y) s3 c.part_rows-4.ensures in

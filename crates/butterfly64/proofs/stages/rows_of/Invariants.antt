@@ -1,7 +1,7 @@
 use Rattle.std.proofs.Common.{◌≡◌, ℕ, ◌+◌, ◌*◌, ◌<◌, length}
 use Rattle.fixed_complex.specs.PairLists.{entry}
 use Rattle.butterfly64.specs.Rows.{row_in, row_lane}
-use Rattle.butterfly64.proofs.stages.rows.Given as goal
+use Rattle.butterfly64.proofs.stages.rows_of.Given as goal
 
 abbrev pub invariant-loop-r : goal.invariant-loop-r
 invariant-loop-r l = record {
