@@ -1,5 +1,5 @@
 -- Numbers and pairs as the code computes them in 64 bits.
-use Rattle.std.proofs.Common.{◌≡◌, ℕ, ◌+◌, ◌*◌, ◌^◌, ◌<◌, ◌≤◌, ◌∙◌, ap, arith, w16, w64, to_z, of_z, ℤ, pos, ◌+ℤ◌, ◌-ℤ◌, ◌*ℤ◌, unsigned_abs}
+use Rattle.std.proofs.Common.{◌≡◌, ℕ, ◌+◌, ◌-◌, ◌*◌, ◌^◌, ◌<◌, ◌≤◌, ◌∙◌, ap, arith, w16, w32, w64, to_z, of_z, ℤ, pos, ◌+ℤ◌, ◌-ℤ◌, ◌*ℤ◌, unsigned_abs}
 use Rattle.std.proofs.lemmas.Int.{ints}
 use Rattle.integer_laws.specs.Floor.{floor_div}
 use Rattle.integer_laws.proofs.FloorDivision.{rounding_within}
@@ -26,6 +26,18 @@ rounded_to_16 v half above least fits =
     let product = unsigned_abs-product (pos (2 * half)) h (2 * half) 25057 (omega arith) fits in
     let small = small_before v h half least (rounding_within v half above) fits product in
     ap (λ m. to_z w16 (of_z w16 (to_z w64 (of_z w64 (floor_div m (2 * half)))))) (held_sum v half least small) ∙ held_in_16 h fits
+
+-- the same of a word
+held_word : (v : ℤ) → unsigned_abs v ≤ 2 ^ 31 - 2 ^ 9 → to_z w32 (of_z w32 (to_z w32 (of_z w32 v) +ℤ pos 256)) ≡ v +ℤ pos 256
+held_word v small = omega (arith, ints)
+
+held_word_in_16 : (h : ℤ) → unsigned_abs h ≤ 25057 → to_z w16 (of_z w16 (to_z w32 (of_z w32 h))) ≡ h
+held_word_in_16 h small = omega (arith, ints)
+
+pub rounded_word : (v : ℤ) → unsigned_abs v ≤ 2 ^ 31 - 2 ^ 9 → unsigned_abs (floor_div (v +ℤ pos 256) 512) ≤ 25057 → to_z w16 (of_z w16 (to_z w32 (of_z w32 (floor_div (to_z w32 (of_z w32 (to_z w32 (of_z w32 v) +ℤ pos 256))) 512)))) ≡ floor_div (v +ℤ pos 256) 512
+rounded_word v small fits =
+    ap (λ m. to_z w16 (of_z w16 (to_z w32 (of_z w32 (floor_div m 512))))) (held_word v small)
+    ∙ held_word_in_16 (floor_div (v +ℤ pos 256) 512) fits
 
 -- a part of a carrier, times 256
 pub times_256 : (z : ℤ) → unsigned_abs z ≤ 954 → to_z w64 (of_z w64 (pos 256 *ℤ to_z w64 (of_z w64 z))) ≡ pos 256 *ℤ z

@@ -2,14 +2,16 @@
 //! memory.
 #![tactic(auto)]
 
-ghost use Rattle.std.specs.Prelude.{◌≡◌, ℕ, ◌^◌, ◌<◌};
+ghost use Rattle.std.specs.Prelude.{◌≡◌, ℕ, ◌+◌, ◌-◌, ◌*◌, ◌^◌, ◌<◌};
 ghost use Rattle.fixed_complex.specs.PairLists.{PairsOfSize, PairsWithin, by_256, entry};
-ghost use Rattle.fixed_complex.specs.Samples.{IsSampleWithin, SamplesWithin};
+ghost use Rattle.fixed_complex.specs.Samples.{IsSampleWithin, SamplesWithin, sample_at};
+ghost use Rattle.fixed_complex.specs.Pairs.{IsWithin};
+ghost use Rattle.butterfly64.specs.Rows.{row_lane};
 ghost use Rattle.plain_waves.specs.Bodies.{all_times, plain_body, plain_sample, sample_of, sent_body};
 ghost use Rattle.plain_waves.specs.Bounds.{FitASample};
 ghost use Rattle.plain_waves.specs.Nearness.{AreNearPlain};
 
-use butterfly64::up_words;
+use butterfly64::{Row, rows_of, up_rows};
 use fixed_complex::{Cx, Sample, add, mul, turn};
 
 pub mod laws;
@@ -28,12 +30,26 @@ pub fn sent_samples(carriers: &[Cx; 64]) -> [Sample; 64]
     ensures near { AreNearPlain 1 result (all_times (plain_body (entry carriers.now))) }
     ensures within { SamplesWithin 25057 result }
 {
-    let sums = up_words(&by_256(carriers));
+    let sums = up_rows(&rows_of(&by_256(carriers)));
     let mut samples = [SILENCE; 64];
-    for n in 0..64 {
-        samples[n] = over_2_9(sums[n]);
+    for r in 0..8 {
+        put_samples(&mut samples, r, &sums[r]);
     }
     samples
+}
+
+// Puts the samples of a row of staged sums to their eight places.
+#[inline(always)]
+fn put_samples(samples: &mut [Sample; 64], r: usize, sums: &Row)
+    requires row { r < 8 }
+    requires words { (l : ℕ) → l < 8 → IsWithin (2 ^ 31 - 2 ^ 9) (row_lane sums.now l) }
+    requires fits { (l : ℕ) → l < 8 → IsSampleWithin 25057 (sample_of 9 (row_lane sums.now l)) }
+    ensures put { (l : ℕ) → l < 8 → sample_at samples.new (8 * r + l) ≡ sample_of 9 (row_lane sums.now l) }
+    ensures before { (n : ℕ) → n < 8 * r → sample_at samples.new n ≡ sample_at samples.old n }
+{
+    for l in 0..8 {
+        samples[8 * r + l] = over_2_9(sums, l);
+    }
 }
 
 // The carriers times 256.
@@ -52,14 +68,17 @@ fn by_256(carriers: &[Cx; 64]) -> [Cx; 64]
     enlarged
 }
 
-// A sample: a staged sum over 512, rounded half up.
-fn over_2_9(sum: Cx) -> Sample
-    requires { IsSampleWithin 25057 (sample_of 9 sum) }
-    ensures { result ≡ sample_of 9 sum }
+// A sample: the staged sum in a lane over 512, rounded half up.
+#[inline(always)]
+fn over_2_9(sums: &Row, l: usize) -> Sample
+    requires lane { l < 8 }
+    requires words { IsWithin (2 ^ 31 - 2 ^ 9) (row_lane sums.now l) }
+    requires fits { IsSampleWithin 25057 (sample_of 9 (row_lane sums.now l)) }
+    ensures { result ≡ sample_of 9 (row_lane sums.now l) }
 {
     Sample {
-        i: ((sum.re + (1 << 8)) >> 9) as i16,
-        q: ((sum.im + (1 << 8)) >> 9) as i16,
+        i: ((sums.re[l] + (1 << 8)) >> 9) as i16,
+        q: ((sums.im[l] + (1 << 8)) >> 9) as i16,
     }
 }
 

@@ -1,42 +1,95 @@
-use Rattle.std.proofs.Common.{◌≡◌, ℕ, ◌∙◌, ◌<◌, List, ap, arith}
+use Rattle.std.proofs.Common.{◌≡◌, ℕ, ◌+◌, ◌-◌, ◌*◌, ◌^◌, ◌∙◌, ◌<◌, List, ap, sym, subst, inl, inr, pos, arith}
+use Rattle.std.proofs.lemmas.Bool.{cases_lt}
+use Rattle.std.proofs.lemmas.List.{ext_get_or}
+use Rattle.std.proofs.lemmas.List.FromFn.{length-map-range_with_len, get_or-map-range_with_len}
 use Rattle.fixed_complex.specs.declared.Cx.{Cx}
+use Rattle.fixed_complex.specs.declared.Sample.{Sample}
+use Rattle.fixed_complex.specs.Pairs.{IsWithin}
 use Rattle.fixed_complex.specs.PairLists.{by_256, entry}
-use Rattle.butterfly64.specs.StagedSums.{up_at, up_sums}
+use Rattle.fixed_complex.specs.Samples.{IsSampleWithin, sample_at}
+use Rattle.fixed_complex.proofs.PairLists.{everywhere_of_size}
+use Rattle.fixed_complex.proofs.PairSizes.{within-size, wider}
+use Rattle.butterfly64.specs.declared.rows.Row.{Row}
+use Rattle.butterfly64.specs.Rows.{RowsOfSize, place_in, row_in, row_lane}
+use Rattle.butterfly64.specs.StagedSums.{up_at}
 use Rattle.butterfly64.proofs.Halves.{up_at-local}
-use Rattle.plain_waves.specs.Bodies.{sent_body, sample_of}
-use Rattle.integer_laws.proofs.Filled.{one_more, all_filled}
-use Rattle.fixed_complex.proofs.PairLists.{entry-map}
+use Rattle.butterfly64.proofs.RowPlaces.{place_is}
+use Rattle.plain_waves.specs.Bodies.{all_times, sent_body, sample_of}
 use Rattle.plain_waves.proofs.Sent.{all_bounded, all_near, bounded}
 use Rattle.plain_waves.proofs.sent_samples.Goals as goal
 
--- the sample of a staged sum of the carriers times 256
-sample_is : (xs enlarged sums : List Cx) → sums ≡ up_sums enlarged → ((bin : ℕ) → bin < 64 → entry enlarged bin ≡ by_256 (entry xs) bin) → (n : ℕ) → n < 64 → sample_of 9 (entry sums n) ≡ sent_body (entry xs) n
-sample_is xs enlarged sums e same n lt =
+-- the sample of a staged sum of the carriers times 256, which stands in rows
+sample_is : (xs enlarged : List Cx) (rows sums : List Row) → ((n : ℕ) → n < 64 → place_in rows n ≡ entry enlarged n) → ((n : ℕ) → n < 64 → place_in sums n ≡ up_at 6 (place_in rows) n) → ((bin : ℕ) → bin < 64 → entry enlarged bin ≡ by_256 (entry xs) bin) → (n : ℕ) → n < 64 → sample_of 9 (place_in sums n) ≡ sent_body (entry xs) n
+sample_is xs enlarged rows sums in_rows summed same n lt =
     ap (sample_of 9)
-    (ap (λ sums. entry sums n) e ∙ entry-map (up_at 6 (entry enlarged)) 64 n lt ∙ up_at-local 6 (entry enlarged) (by_256 (entry xs)) same n)
+    (summed n lt ∙ up_at-local 6 (place_in rows) (by_256 (entry xs)) (λ m below. in_rows m below ∙ same m below) n)
 
-pub over_2_9-requires : goal.over_2_9-requires
-over_2_9-requires c =
-    let xs = c.args.carriers.now in
-    let n = c.loop-n.n in
-    rw (sample_is xs c.by_256.result c.up_words-sums.result c.up_words-sums.ensures.sums c.by_256.ensures.carriers n c.loop-n-test.true) (bounded xs c.requires.within c.requires.fits n c.loop-n-test.true)
+-- lane l of row r
+lane_is : (sums : List Row) (r l : ℕ) → l < 8 → row_lane (row_in sums r) l ≡ place_in sums (8 * r + l)
+lane_is sums r l lt = place_is sums (8 * r + l) r l (omega arith) (omega arith)
 
-pub loop-n-preserved : goal.loop-n-preserved
-loop-n-preserved c =
+lane_within : (sums : List Row) (r l : ℕ) → RowsOfSize (65 * 2 ^ 24 + 256) sums → r < 8 → l < 8 → IsWithin (2 ^ 31 - 2 ^ 9) (row_lane (row_in sums r) l)
+lane_within sums r l sizes below lt =
+    rw (lane_is sums r l lt) (within-size (2 ^ 31 - 2 ^ 9) _ (wider (65 * 2 ^ 24 + 256) (2 ^ 31 - 2 ^ 9) _ (omega arith) (sizes.each (8 * r + l) (omega arith))))
+
+lane_fits : (xs : List Cx) (sums : List Row) (r l : ℕ) → l < 8 → sample_of 9 (place_in sums (8 * r + l)) ≡ sent_body (entry xs) (8 * r + l) → IsSampleWithin 25057 (sent_body (entry xs) (8 * r + l)) → IsSampleWithin 25057 (sample_of 9 (row_lane (row_in sums r) l))
+lane_fits xs sums r l lt is fits = subst (IsSampleWithin 25057) (sym (ap (sample_of 9) (lane_is sums r l lt) ∙ is)) fits
+
+-- the eight samples of a row more
+one_row_more : (f : ℕ → Sample) (r : ℕ) (old new : List Sample) → ((n : ℕ) → n < 8 * r → sample_at old n ≡ f n) → ((n : ℕ) → n < 8 * r → sample_at new n ≡ sample_at old n) → ((l : ℕ) → l < 8 → sample_at new (8 * r + l) ≡ f (8 * r + l)) → (n : ℕ) → n < 8 * (r + 1) → sample_at new n ≡ f n
+one_row_more f r old new so_far kept put n lt =
+    elim (cases_lt n (8 * r)) [
+      | inl earlier ↦ kept n earlier ∙ so_far n earlier
+      | inr later ↦
+          (let here : 8 * r + (n - 8 * r) ≡ n = omega arith in
+          subst (λ m. sample_at new m ≡ f m) here (put (n - 8 * r) (omega arith)))
+    ]
+
+pub rows_of-requires : goal.rows_of-requires
+rows_of-requires c = record { each = λ n lt. within-size (2 ^ 31 - 1) _ (wider (2 ^ 24) (2 ^ 31 - 1) _ (omega arith) (c.by_256.ensures.sizes.each n lt)) }
+
+pub up_rows-sums-requires : goal.up_rows-sums-requires
+up_rows-sums-requires c = record {
+  each = λ n lt. rw (c.rows_of.ensures n lt) (everywhere_of_size (2 ^ 24) c.by_256.result c.by_256.ensures.sizes n);
+}
+
+pub put_samples-requires-clause-words : goal.put_samples-requires-clause-words
+put_samples-requires-clause-words c = λ l lt. lane_within c.up_rows-sums.result c.loop-r.r l c.up_rows-sums.ensures.sizes c.loop-r-test.true lt
+
+pub put_samples-requires-clause-fits : goal.put_samples-requires-clause-fits
+put_samples-requires-clause-fits c = λ l lt.
     let xs = c.args.carriers.now in
-    let n = c.loop-n.n in
-    one_more _ (sent_body (entry xs)) 64 _ _ _ c.loop-n.invariant c.loop-n-test.true
-    (c.over_2_9.ensures ∙ sample_is xs c.by_256.result c.up_words-sums.result c.up_words-sums.ensures.sums c.by_256.ensures.carriers n c.loop-n-test.true)
+    let r = c.loop-r.r in
+    let below : 8 * r + l < 64 = omega arith in
+    let sent = sample_is xs c.by_256.result c.rows_of.result c.up_rows-sums.result c.rows_of.ensures c.up_rows-sums.ensures.sums c.by_256.ensures.carriers in
+    lane_fits xs c.up_rows-sums.result r l lt (sent (8 * r + l) below) (bounded xs c.requires.within c.requires.fits (8 * r + l) below)
+
+pub loop-r-preserved : goal.loop-r-preserved
+loop-r-preserved c =
+    let xs = c.args.carriers.now in
+    let r = c.loop-r.r in
+    let sums = c.up_rows-sums.result in
+    let sent = sample_is xs c.by_256.result c.rows_of.result sums c.rows_of.ensures c.up_rows-sums.ensures.sums c.by_256.ensures.carriers in
+    record {
+      long = c.put_samples.array_long;
+      done =
+          one_row_more (sent_body (entry xs)) r c.loop-r.samples c.put_samples.new.samples c.loop-r.invariant.done c.put_samples.ensures.before
+          (λ l lt. c.put_samples.ensures.put l lt ∙ ap (sample_of 9) (lane_is sums r l lt) ∙ sent (8 * r + l) (omega arith));
+    }
+
+all : (c : goal.After-loop-r) → c.loop-r.samples ≡ all_times (sent_body (entry c.args.carriers.now))
+all c =
+    let f = sent_body (entry c.args.carriers.now) in
+    ext_get_or (record { i = pos 0; q = pos 0 }) c.loop-r.samples (all_times f) (c.loop-r.invariant.long ∙ sym (length-map-range_with_len f 0 64))
+    (λ n lt.
+    let below : n < 64 = omega (arith, c.loop-r.invariant.long) in
+    c.loop-r.invariant.done n (omega arith) ∙ sym (get_or-map-range_with_len f 0 64 n n (record { i = pos 0; q = pos 0 }) below (omega arith)))
 
 pub returns-clause-samples : goal.returns-clause-samples
-returns-clause-samples c = all_filled _ (sent_body (entry c.args.carriers.now)) 64 _ _ c.loop-n.invariant (omega arith)
+returns-clause-samples c = all c
 
 pub returns-clause-near : goal.returns-clause-near
-returns-clause-near c =
-    let xs = c.args.carriers.now in
-    rw (all_filled _ (sent_body (entry xs)) 64 _ _ c.loop-n.invariant (omega arith)) (all_near xs c.requires.within)
+returns-clause-near c = rw (all c) (all_near c.args.carriers.now c.requires.within)
 
 pub returns-clause-within : goal.returns-clause-within
-returns-clause-within c =
-    let xs = c.args.carriers.now in
-    rw (all_filled _ (sent_body (entry xs)) 64 _ _ c.loop-n.invariant (omega arith)) (all_bounded xs c.requires.within c.requires.fits)
+returns-clause-within c = rw (all c) (all_bounded c.args.carriers.now c.requires.within c.requires.fits)

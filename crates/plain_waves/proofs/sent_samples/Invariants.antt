@@ -1,8 +1,11 @@
-use Rattle.std.proofs.Common.{pos}
+use Rattle.std.proofs.Common.{◌≡◌, ℕ, ◌*◌, ◌<◌, length}
 use Rattle.plain_waves.specs.Bodies.{sent_body}
 use Rattle.fixed_complex.specs.PairLists.{entry}
-use Rattle.integer_laws.proofs.Filled.{IsFilled}
+use Rattle.fixed_complex.specs.Samples.{sample_at}
 use Rattle.plain_waves.proofs.sent_samples.Given as goal
 
-abbrev pub invariant-loop-n : goal.invariant-loop-n
-invariant-loop-n l = IsFilled (record { i = pos 0; q = pos 0 }) (sent_body (entry l.carriers)) 64 l.n l.samples
+abbrev pub invariant-loop-r : goal.invariant-loop-r
+invariant-loop-r l = record {
+  long : length l.samples ≡ 64;
+  done : (n : ℕ) → n < 8 * l.r → sample_at l.samples n ≡ sent_body (entry l.carriers) n;
+}
