@@ -7,7 +7,7 @@ use Rattle.integer_laws.proofs.Filled.{all_filled}
 use Rattle.bit_lists.specs.Bits.{AreBits, IsBit}
 use Rattle.rate_table.specs.declared.Rate.{Rate}
 use Rattle.rate_table.specs.declared.Rate.TheVariants.{R6, R9, R12, R18, R24, R36, R48, R54}
-use Rattle.rate_table.specs.Table.{row_of}
+use Rattle.rate_table.specs.Table.{bits_of_modulation, row_of}
 
 pub width-coded : (rate : Rate) → 48 * (row_of rate).bits_per_carrier ≡ (row_of rate).coded_bits
 width-coded R6 = refl
@@ -44,3 +44,14 @@ zeros-at (suc n) (suc k) = zeros-at n k
 
 pub zeros-bits : (n : ℕ) → AreBits (replicate n 0)
 zeros-bits n = All-replicate IsBit n 0 (omega arith)
+
+-- how many bits a carrier has, by its modulation
+pub width-of : (rate : Rate) → (row_of rate).bits_per_carrier ≡ bits_of_modulation (row_of rate).modulation
+width-of R6 = refl
+width-of R9 = refl
+width-of R12 = refl
+width-of R18 = refl
+width-of R24 = refl
+width-of R36 = refl
+width-of R48 = refl
+width-of R54 = refl

@@ -8,7 +8,7 @@ ghost use Rattle.carrier_bins.specs.Carriers.{bin_of, data_carrier_of};
 ghost use Rattle.carrier_equaliser.specs.Decided.{decided_at, decided_over, interleaved_decisions};
 ghost use Rattle.integer_laws.specs.Size.{sum_of_squares};
 
-use constellations::{bin, data_carrier, decide};
+use constellations::decide;
 use fixed_complex::{Cx, conj, mul};
 use rate_table::Rate;
 
@@ -25,22 +25,21 @@ pub(crate) fn decide_all(rate: Rate, bins: &[Cx; 64], symbol: &[Cx; 64], out: &m
     *out = [0; 288];
     for number in 0..48 {
         let bits = decided_number(rate, bins, symbol, number);
-        put(out, number * width, bits, width);
+        put(out, number * width, bits);
     }
 }
 
-// The bits of a data number, put at a place.
-fn put(out: &mut [u8; 288], at: usize, bits: [u8; 6], width: usize)
-    requires width { width ≤ 6 }
-    requires room { at + width ≤ 288 }
+// The bits of a data number and the zeros behind them, put at a place.
+fn put(out: &mut [u8; 288], at: usize, bits: [u8; 6])
+    requires room { at + 6 ≤ 288 }
     requires bits { AreBits bits }
     requires out { AreBits out.old }
-    ensures here { (j : ℕ) → j < width → slice_index out.new (at + j) ≡ slice_index bits j }
+    ensures here { (j : ℕ) → j < 6 → slice_index out.new (at + j) ≡ slice_index bits j }
     ensures before { (k : ℕ) → k < at → slice_index out.new k ≡ slice_index out.old k }
-    ensures behind { (k : ℕ) → at + width ≤ k → slice_index out.new k ≡ slice_index out.old k }
+    ensures behind { (k : ℕ) → at + 6 ≤ k → slice_index out.new k ≡ slice_index out.old k }
     ensures bits { AreBits out.new }
 {
-    for j in 0..width {
+    for j in 0..6 {
         out[at + j] = bits[j];
     }
 }
@@ -51,6 +50,7 @@ fn decided_number(rate: Rate, bins: &[Cx; 64], symbol: &[Cx; 64], number: usize)
     requires symbol { PairsWithin (2 ^ 22) symbol.now }
     requires number { number < 48 }
     ensures value { result ≡ decided_at rate bins.now symbol.now number }
+    ensures others { (j : ℕ) → (row_of rate).bits_per_carrier ≤ j → slice_index result j ≡ 0 }
     ensures bits { AreBits result }
 {
     let bin = bin_of_number(number);
@@ -62,6 +62,7 @@ fn decided(rate: Rate, channel: Cx, carrier: Cx) -> [u8; 6]
     requires channel { IsWithin (2 ^ 23) channel }
     requires carrier { IsWithin (2 ^ 22) carrier }
     ensures value { result ≡ decided_over rate channel carrier }
+    ensures others { (j : ℕ) → (row_of rate).bits_per_carrier ≤ j → slice_index result j ≡ 0 }
     ensures bits { AreBits result }
 {
     decide(
@@ -107,6 +108,11 @@ fn bin_of_number(number: usize) -> usize
     ensures bin { result ≡ bin_of (data_carrier_of number) }
     ensures within { result < 64 }
 {
-    constellations::laws::carriers_of_data();
-    bin(data_carrier(number))
+    usize::from(DATA_BINS[number])
 }
+
+// The bins of the data numbers in turn.
+static DATA_BINS: [u8; 48] = [
+    38, 39, 40, 41, 42, 44, 45, 46, 47, 48, 49, 50, 51, 52, 53, 54, 55, 56, 58, 59, 60, 61, 62, 63,
+    1, 2, 3, 4, 5, 6, 8, 9, 10, 11, 12, 13, 14, 15, 16, 17, 18, 19, 20, 22, 23, 24, 25, 26,
+];

@@ -2,13 +2,15 @@
 //! memory.
 #![tactic(auto)]
 
-ghost use Rattle.std.specs.Prelude.{◌≡◌, ◌+◌, ◌-◌, ◌*◌, ◌^◌, ◌<◌, ◌≤◌, length, ℤ, pos, ◌≤ℤ◌, unsigned_abs};
+ghost use Rattle.std.specs.Prelude.{◌≡◌, ℕ, ◌+◌, ◌-◌, ◌*◌, ◌^◌, ◌<◌, ◌≤◌, length, ℤ, pos, ◌≤ℤ◌, slice_index, unsigned_abs, if◌then◌else◌};
+ghost use Rattle.fixed_complex.specs.declared.Cx.{Cx};
 ghost use Rattle.bit_lists.specs.Bits.{AreBits};
 ghost use Rattle.fixed_complex.specs.Pairs.{IsWithin};
 ghost use Rattle.rate_table.specs.Table.{bits_of_modulation};
 ghost use Rattle.constellations.specs.Axes.{axis_of, axis_width, gray_bit};
 ghost use Rattle.constellations.specs.Decisions.{decided, lies_above, thresholds, thresholds_below};
 ghost use Rattle.constellations.specs.Points.{point_of};
+ghost use Rattle.rate_table.specs.Table.{bits_of_modulation};
 
 use fixed_complex::Cx;
 use rate_table::Modulation;
@@ -64,14 +66,12 @@ pub fn decide(modulation: Modulation, z: Cx, m: i64) -> [u8; 6]
     requires m_least { pos 0 ≤ℤ m }
     requires m_most { m ≤ℤ pos (2 ^ 47) }
     ensures decided { result ≡ decided modulation z m }
+    ensures others { (j : ℕ) → bits_of_modulation modulation ≤ j → slice_index result j ≡ 0 }
     ensures bits { AreBits result }
 {
-    decide_wide(
-        modulation,
-        i128::from(z.re),
-        i128::from(z.im),
-        i128::from(m),
-    )
+    let i = place_reached(modulation, z.re, m);
+    let q = place_reached(modulation, z.im, m);
+    bits_at_places(modulation, i, q)
 }
 
 /// The same of parts and a square that need 128 bits: the parts of the point are at most 2^112 in size, and `m` is from 0
@@ -84,8 +84,21 @@ pub fn decide_wide(modulation: Modulation, re: i128, im: i128, m: i128) -> [u8; 
     ensures decided { result ≡ decided modulation (record { re = re; im = im }) m }
     ensures bits { AreBits result }
 {
-    let i = place_reached(modulation, re, m);
-    let q = place_reached(modulation, im, m);
+    let i = place_reached_wide(modulation, re, m);
+    let q = place_reached_wide(modulation, im, m);
+    bits_at_places(modulation, i, q)
+}
+
+// The bits of the levels at a place for I and at one for Q, with zeros behind them; BPSK has no bit for Q.
+fn bits_at_places(modulation: Modulation, i: u8, q: u8) -> [u8; 6]
+    requires i { i ≤ length (thresholds modulation) }
+    requires q { q ≤ length (thresholds modulation) }
+    ensures decided { (z : Cx) (m : ℤ) → i ≡ thresholds_below modulation z.re m
+        → q ≡ thresholds_below modulation z.im m
+        → result ≡ decided modulation z m }
+    ensures others { (j : ℕ) → bits_of_modulation modulation ≤ j → slice_index result j ≡ 0 }
+    ensures bits { AreBits result }
+{
     match modulation {
         Modulation::Bpsk => [gray_bit(i, 0), 0, 0, 0, 0, 0],
         Modulation::Qpsk => [gray_bit(i, 0), gray_bit(q, 0), 0, 0, 0, 0],
@@ -144,7 +157,46 @@ fn gray_bit(place: u8, bit: u32) -> u8
 }
 
 // How many thresholds an axis lies above: the place of its level.
-fn place_reached(modulation: Modulation, part: i128, m: i128) -> u8
+fn place_reached(modulation: Modulation, part: i64, m: i64) -> u8
+    requires part { unsigned_abs part ≤ 2 ^ 46 }
+    requires m { unsigned_abs m ≤ 2 ^ 47 }
+    ensures place { result ≡ thresholds_below modulation part m }
+    ensures within { result ≤ length (thresholds modulation) }
+{
+    match modulation {
+        Modulation::Bpsk | Modulation::Qpsk => above(part, m, 0),
+        Modulation::Qam16 => above(part, m, -410) + above(part, m, 0) + above(part, m, 410),
+        Modulation::Qam64 => {
+            let low = above(part, m, -600) + above(part, m, -400) + above(part, m, -200);
+            let high = above(part, m, 200) + above(part, m, 400) + above(part, m, 600);
+            low + above(part, m, 0) + high
+        }
+    }
+}
+
+// 1 where an axis lies above a threshold, where the square of the channel's size is m, and 0 where it doesn't.
+fn above(part: i64, m: i64, threshold: i64) -> u8
+    requires part { unsigned_abs part ≤ 2 ^ 46 }
+    requires m { unsigned_abs m ≤ 2 ^ 47 }
+    requires threshold { unsigned_abs threshold ≤ 2 ^ 10 }
+    ensures value { result ≡ (if lies_above part m threshold then 1 else 0) }
+    ensures most { result ≤ 1 }
+{
+    if lies_above(part, m, threshold) { 1 } else { 0 }
+}
+
+// Whether an axis lies above a threshold, where the square of the channel's size is m.
+fn lies_above(part: i64, m: i64, threshold: i64) -> bool
+    requires part { unsigned_abs part ≤ 2 ^ 46 }
+    requires m { unsigned_abs m ≤ 2 ^ 47 }
+    requires threshold { unsigned_abs threshold ≤ 2 ^ 10 }
+    ensures { result ≡ lies_above part m threshold }
+{
+    1296 * part >= threshold * m
+}
+
+// How many thresholds an axis that needs 128 bits lies above: the place of its level.
+fn place_reached_wide(modulation: Modulation, part: i128, m: i128) -> u8
     requires part { unsigned_abs part ≤ 2 ^ 112 }
     requires m { unsigned_abs m ≤ 2 ^ 112 }
     ensures place { result ≡ thresholds_below modulation part m }
@@ -152,15 +204,15 @@ fn place_reached(modulation: Modulation, part: i128, m: i128) -> u8
 {
     let mut above = 0;
     for threshold in thresholds(modulation) {
-        if lies_above(part, m, *threshold) {
+        if lies_above_wide(part, m, *threshold) {
             above += 1;
         }
     }
     above
 }
 
-// Whether an axis lies above a threshold, where the square of the channel's size is m.
-fn lies_above(part: i128, m: i128, threshold: i64) -> bool
+// Whether an axis that needs 128 bits lies above a threshold, where the square of the channel's size is m.
+fn lies_above_wide(part: i128, m: i128, threshold: i64) -> bool
     requires part { unsigned_abs part ≤ 2 ^ 112 }
     requires m { unsigned_abs m ≤ 2 ^ 112 }
     requires threshold { unsigned_abs threshold ≤ 2 ^ 10 }

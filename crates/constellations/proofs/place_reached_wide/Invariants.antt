@@ -1,7 +1,7 @@
 use Rattle.std.proofs.Common.{◌≡◌, ◌≤◌, take}
 use Rattle.std.specs.List.{count_by}
 use Rattle.constellations.specs.Decisions.{lies_above}
-use Rattle.constellations.proofs.place_reached.Given as goal
+use Rattle.constellations.proofs.place_reached_wide.Given as goal
 
 abbrev pub invariant-loop-threshold : goal.invariant-loop-threshold
 invariant-loop-threshold l = record {
