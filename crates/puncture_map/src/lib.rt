@@ -50,6 +50,17 @@ pub fn next_in_period(rate: CodeRate, phase: usize) -> usize
     if next == period(rate) { 0 } else { next }
 }
 
+/// How many steps a period has, 1 to 3 (18.3.5.6). Takes no memory.
+pub fn period(rate: CodeRate) -> usize
+    ensures { result ≡ period_of rate }
+{
+    match rate {
+        CodeRate::Half => 1,
+        CodeRate::TwoThirds => 2,
+        CodeRate::ThreeQuarters => 3,
+    }
+}
+
 /// The number of kept places of the first so many steps, at most 2^20: those below twice that number (own). Takes
 /// no memory.
 pub fn kept_before(rate: CodeRate, steps: usize) -> usize
@@ -122,17 +133,6 @@ fn put_rest(bits: &mut Vec<u8>, rate: CodeRate, code: &[u8], place: usize) -> Re
         }
     }
     Ok(())
-}
-
-// How many steps a period has.
-fn period(rate: CodeRate) -> usize
-    ensures { result ≡ period_of rate }
-{
-    match rate {
-        CodeRate::Half => 1,
-        CodeRate::TwoThirds => 2,
-        CodeRate::ThreeQuarters => 3,
-    }
 }
 
 #[cfg(test)]

@@ -1,10 +1,10 @@
-use Rattle.std.proofs.Common.{◌≡◌, ℕ, ◌+◌, ◌*◌, ◌/◌, ◌<◌, ◌≤◌, suc, add-one, length, take, sym, ◌∙◌, ap, arith}
+use Rattle.std.proofs.Common.{◌≡◌, ℕ, ◌+◌, ◌*◌, ◌/◌, add-one, length, take, sym, ◌∙◌, ap, arith}
 use Rattle.std.proofs.Math.Nat.{mul-suc, mul-mod_right}
 use Rattle.std.proofs.lemmas.List.{length-map}
 use Rattle.std.specs.List.{slice_index}
 use Rattle.bit_lists.specs.Bits.{IsBit}
 use Rattle.std.proofs.lemmas.List.Elements.{All-same}
-use Rattle.puncture_map.specs.Kept.{kept_count, kept_list, kept_places, period_of}
+use Rattle.puncture_map.specs.Kept.{kept_count, kept_places, period_of}
 use Rattle.rate_table.specs.Table.{row_of}
 use Rattle.puncture_map.proofs.Counts.{kept_count-symbols}
 use Rattle.puncture_map.proofs.KeptBits.{kept_bits, AreBits-kept_bits, kept_list-take}

@@ -1,5 +1,4 @@
-use Rattle.std.proofs.Common.{◌≡◌, ap, ◌∙◌, arith}
-use Rattle.puncture_map.proofs.KeptBits.{kept_bits, kept_bits-kept, kept_bits-dropped}
+use Rattle.puncture_map.proofs.KeptBits.{kept_bits-kept, kept_bits-dropped}
 use Rattle.puncture_map.proofs.put_rest.Goals as goal
 use Rattle.puncture_map.proofs.put_rest.Goals.{then-kept+in_ok-push, else-kept}
 
