@@ -1,8 +1,9 @@
 //! The decisions of a data number over the estimate of a channel.
-ghost use Rattle.std.specs.Prelude.{◌≡◌, ℕ, ◌+◌, slice_index, take, ◌^◌, ◌<◌, ◌≤◌, ◌≤ℤ◌, ◌*ℤ◌, pos, unsigned_abs};
+ghost use Rattle.std.specs.Prelude.{◌≡◌, ℕ, ◌+◌, ◌*◌, slice_index, take, ◌^◌, ◌<◌, ◌≤◌, ◌≤ℤ◌, ◌*ℤ◌, pos, unsigned_abs};
 ghost use Rattle.bit_lists.specs.Bits.{AreBits};
 ghost use Rattle.fixed_complex.specs.PairLists.{PairsWithin};
-ghost use Rattle.rate_table.specs.Table.{row_of};
+ghost use Rattle.rate_table.specs.declared.Rate.{Rate};
+ghost use Rattle.rate_table.specs.Table.{bits_of_modulation, row_of};
 ghost use Rattle.fixed_complex.specs.Pairs.{IsWithin, conjugate, times};
 ghost use Rattle.carrier_bins.specs.Carriers.{bin_of, data_carrier_of};
 ghost use Rattle.carrier_equaliser.specs.Decided.{decided_at, decided_over, interleaved_decisions};
@@ -10,7 +11,7 @@ ghost use Rattle.integer_laws.specs.Size.{sum_of_squares};
 
 use constellations::decide;
 use fixed_complex::{Cx, conj, mul};
-use rate_table::Rate;
+use rate_table::{Modulation, Rate};
 
 // The decisions of a symbol over a channel, interleaved, and zeros behind them.
 pub(crate) fn decide_all(rate: Rate, bins: &[Cx; 64], symbol: &[Cx; 64], out: &mut [u8; 288])
@@ -21,10 +22,30 @@ pub(crate) fn decide_all(rate: Rate, bins: &[Cx; 64], symbol: &[Cx; 64], out: &m
     ensures others { (k : ℕ) → (row_of rate).coded_bits ≤ k → slice_index out.new k ≡ 0 }
     ensures bits { AreBits out.new }
 {
-    let width = rate.bits_per_carrier();
+    // a loop for each modulation
+    match rate.modulation() {
+        Modulation::Bpsk => decide_numbers(Modulation::Bpsk, bins, symbol, out),
+        Modulation::Qpsk => decide_numbers(Modulation::Qpsk, bins, symbol, out),
+        Modulation::Qam16 => decide_numbers(Modulation::Qam16, bins, symbol, out),
+        Modulation::Qam64 => decide_numbers(Modulation::Qam64, bins, symbol, out),
+    }
+}
+
+// The decisions of all data numbers in turn, and zeros behind them.
+#[inline(always)]
+fn decide_numbers(modulation: Modulation, bins: &[Cx; 64], symbol: &[Cx; 64], out: &mut [u8; 288])
+    requires bins { PairsWithin (2 ^ 23) bins.now }
+    requires symbol { PairsWithin (2 ^ 22) symbol.now }
+    ensures list { (rate : Rate) → (row_of rate).modulation ≡ modulation
+        → take (row_of rate).coded_bits out.new
+        ≡ interleaved_decisions rate bins.now symbol.now }
+    ensures others { (k : ℕ) → 48 * bits_of_modulation modulation ≤ k → slice_index out.new k ≡ 0 }
+    ensures bits { AreBits out.new }
+{
+    let width = modulation.bits_per_carrier();
     *out = [0; 288];
     for number in 0..48 {
-        let bits = decided_number(rate, bins, symbol, number);
+        let bits = decided_number(modulation, bins, symbol, number);
         put(out, number * width, bits);
     }
 }
@@ -45,28 +66,35 @@ fn put(out: &mut [u8; 288], at: usize, bits: [u8; 6])
 }
 
 // The bits decided of a data number, with zeros behind them.
-fn decided_number(rate: Rate, bins: &[Cx; 64], symbol: &[Cx; 64], number: usize) -> [u8; 6]
+fn decided_number(
+    modulation: Modulation,
+    bins: &[Cx; 64],
+    symbol: &[Cx; 64],
+    number: usize,
+) -> [u8; 6]
     requires bins { PairsWithin (2 ^ 23) bins.now }
     requires symbol { PairsWithin (2 ^ 22) symbol.now }
     requires number { number < 48 }
-    ensures value { result ≡ decided_at rate bins.now symbol.now number }
-    ensures others { (j : ℕ) → (row_of rate).bits_per_carrier ≤ j → slice_index result j ≡ 0 }
+    ensures value { (rate : Rate) → (row_of rate).modulation ≡ modulation
+        → result ≡ decided_at rate bins.now symbol.now number }
+    ensures others { (j : ℕ) → bits_of_modulation modulation ≤ j → slice_index result j ≡ 0 }
     ensures bits { AreBits result }
 {
     let bin = bin_of_number(number);
-    decided(rate, bins[bin], symbol[bin])
+    decided(modulation, bins[bin], symbol[bin])
 }
 
 // The bits decided of a received carrier and the channel there, with zeros behind them.
-fn decided(rate: Rate, channel: Cx, carrier: Cx) -> [u8; 6]
+fn decided(modulation: Modulation, channel: Cx, carrier: Cx) -> [u8; 6]
     requires channel { IsWithin (2 ^ 23) channel }
     requires carrier { IsWithin (2 ^ 22) carrier }
-    ensures value { result ≡ decided_over rate channel carrier }
-    ensures others { (j : ℕ) → (row_of rate).bits_per_carrier ≤ j → slice_index result j ≡ 0 }
+    ensures value { (rate : Rate) → (row_of rate).modulation ≡ modulation
+        → result ≡ decided_over rate channel carrier }
+    ensures others { (j : ℕ) → bits_of_modulation modulation ≤ j → slice_index result j ≡ 0 }
     ensures bits { AreBits result }
 {
     decide(
-        rate.modulation(),
+        modulation,
         turned_back(carrier, channel),
         size_squared(channel),
     )

@@ -1,95 +1,38 @@
-use Rattle.std.proofs.Common.{◌≡◌, ℕ, ◌+◌, ◌-◌, ◌*◌, ◌/◌, ◌%◌, ◌<◌, ◌≤◌, slice_index, refl, ap, ◌∙◌, inl, inr, arith}
-use Rattle.std.proofs.lemmas.Bool.{cases_lt}
+use Rattle.std.proofs.Common.{◌≡◌, ℕ, ◌*◌, ◌≤◌, List, slice_index, ap, sym, ◌∙◌, arith}
 use Rattle.rate_table.specs.declared.Modulation.{Modulation}
 use Rattle.rate_table.specs.declared.Modulation.TheVariants.{Bpsk, Qpsk, Qam16, Qam64}
 use Rattle.rate_table.specs.declared.Rate.{Rate}
 use Rattle.rate_table.specs.Table.{bits_of_modulation, row_of}
-use Rattle.carrier_equaliser.specs.Decided.{decision_at, interleaved_decisions}
-use Rattle.carrier_equaliser.proofs.Places.{coded-le, take-filled, width-coded, width-of, zeros-at, zeros-bits}
+use Rattle.carrier_equaliser.proofs.Places.{width-coded, width-of}
 use Rattle.carrier_equaliser.proofs.decisions.decide_all.Goals as goal
 
--- the places of a data number's bits
-record IsPlaced (width number place : ℕ) : Type 0 where
-  more : (number + 1) * width ≡ number * width + width
-  most : width ≤ 6
-  quotient : number * width ≤ place → place < number * width + width → place / width ≡ number
-  rest : number * width ≤ place → place < number * width + width → place % width ≡ place - number * width
+-- zeros behind the decisions of a modulation, which are those of a rate
+others : (rate : Rate) (modulation : Modulation) (out : List ℕ) → (row_of rate).modulation ≡ modulation → ((k : ℕ) → 48 * bits_of_modulation modulation ≤ k → slice_index out k ≡ 0)
+    → (k : ℕ) → (row_of rate).coded_bits ≤ k → slice_index out k ≡ 0
+others rate modulation out is none k past =
+    let width : 48 * bits_of_modulation modulation ≡ (row_of rate).coded_bits = ap (λ w. 48 * w) (sym (width-of rate ∙ ap bits_of_modulation is)) ∙ width-coded rate in
+    none k (omega (arith, width, past))
 
-placed : (modulation : Modulation) (number place : ℕ) → IsPlaced (bits_of_modulation modulation) number place
-placed Bpsk number place = record {
-  more = omega arith;
-  most = omega arith;
-  quotient = λ h k. omega arith;
-  rest = λ h k. omega arith;
-}
-placed Qpsk number place = record {
-  more = omega arith;
-  most = omega arith;
-  quotient = λ h k. omega arith;
-  rest = λ h k. omega arith;
-}
-placed Qam16 number place = record {
-  more = omega arith;
-  most = omega arith;
-  quotient = λ h k. omega arith;
-  rest = λ h k. omega arith;
-}
-placed Qam64 number place = record {
-  more = omega arith;
-  most = omega arith;
-  quotient = λ h k. omega arith;
-  rest = λ h k. omega arith;
-}
+pub returns-in-Bpsk-clause-list : goal.returns-in-Bpsk-clause-list
+returns-in-Bpsk-clause-list c = c.decide_numbers.ensures.list c.args.rate (sym c.modulation.ensures ∙ c.in-Bpsk.is)
 
-placed_at : (rate : Rate) (number place : ℕ) → IsPlaced (row_of rate).bits_per_carrier number place
-placed_at rate number place = rw (width-of rate) (placed (row_of rate).modulation number place)
+pub returns-in-Bpsk-clause-others : goal.returns-in-Bpsk-clause-others
+returns-in-Bpsk-clause-others c = others c.args.rate Bpsk _ (sym c.modulation.ensures ∙ c.in-Bpsk.is) c.decide_numbers.ensures.others
 
-pub loop-number-init : goal.loop-number-init
-loop-number-init c = record {
-  long = refl;
-  decided = λ k below. absurd (omega arith);
-  rest = λ k _. zeros-at 288 k;
-  bits = zeros-bits 288;
-}
+pub returns-in-Qpsk-clause-list : goal.returns-in-Qpsk-clause-list
+returns-in-Qpsk-clause-list c = c.decide_numbers-in-Qpsk.ensures.list c.args.rate (sym c.modulation.ensures ∙ c.in-Qpsk.is)
 
-pub loop-number-preserved : goal.loop-number-preserved
-loop-number-preserved c =
-    let rate = c.args.rate in
-    let n = c.loop-number.number in
-    let w = (row_of rate).bits_per_carrier in
-    let at : n * c.bits_per_carrier-width.result ≡ n * w = ap (λ width. n * width) c.bits_per_carrier-width.ensures in
-    record {
-      long = omega arith;
-      decided = λ k below.
-          let here = placed_at rate n k in
-          elim (cases_lt k (n * w)) [
-            | inl before ↦ c.put.ensures.before k (omega (arith, at, before)) ∙ c.loop-number.invariant.decided k before
-            | inr from ↦
-                let within : k < n * w + w = omega (arith, here.more, below) in
-                let place : k ≡ n * c.bits_per_carrier-width.result + (k - n * w) = omega (arith, at, from) in
-                ap (slice_index c.put.new.out) place
-                ∙ c.put.ensures.here (k - n * w) (omega (arith, here.most, within, from))
-                ∙ ap (λ bits. slice_index bits (k - n * w)) c.decided_number-bits.ensures.value
-                ∙ rw (here.quotient from within, here.rest from within) refl
-          ];
-      rest = λ k past.
-          let here = placed_at rate n k in
-          elim (cases_lt k (n * w + 6)) [
-            | inl within ↦
-                let place : k ≡ n * c.bits_per_carrier-width.result + (k - n * w) = omega (arith, at, here.more, past) in
-                ap (slice_index c.put.new.out) place
-                ∙ c.put.ensures.here (k - n * w) (omega (arith, within, here.more, past))
-                ∙ c.decided_number-bits.ensures.others (k - n * w) (omega (arith, here.more, past))
-            | inr behind ↦ c.put.ensures.behind k (omega (arith, at, behind)) ∙ c.loop-number.invariant.rest k (omega (arith, behind))
-          ];
-      bits = c.put.ensures.bits;
-    }
+pub returns-in-Qpsk-clause-others : goal.returns-in-Qpsk-clause-others
+returns-in-Qpsk-clause-others c = others c.args.rate Qpsk _ (sym c.modulation.ensures ∙ c.in-Qpsk.is) c.decide_numbers-in-Qpsk.ensures.others
 
-pub returns-clause-list : goal.returns-clause-list
-unfolding interleaved_decisions
-returns-clause-list c =
-    let all : c.loop-number.number ≡ 48 = omega arith in
-    let decided = rw all at c.loop-number.invariant.decided in
-    take-filled (decision_at c.args.rate c.args.bins.now c.args.symbol.now) (row_of c.args.rate).coded_bits c.loop-number.out
-    (omega (arith, coded-le c.args.rate, c.loop-number.invariant.long))
-    (λ k lt. decided k (omega (arith, width-coded c.args.rate, lt)))
+pub returns-in-Qam16-clause-list : goal.returns-in-Qam16-clause-list
+returns-in-Qam16-clause-list c = c.decide_numbers-in-Qam16.ensures.list c.args.rate (sym c.modulation.ensures ∙ c.in-Qam16.is)
+
+pub returns-in-Qam16-clause-others : goal.returns-in-Qam16-clause-others
+returns-in-Qam16-clause-others c = others c.args.rate Qam16 _ (sym c.modulation.ensures ∙ c.in-Qam16.is) c.decide_numbers-in-Qam16.ensures.others
+
+pub returns-in-Qam64-clause-list : goal.returns-in-Qam64-clause-list
+returns-in-Qam64-clause-list c = c.decide_numbers-in-Qam64.ensures.list c.args.rate (sym c.modulation.ensures ∙ c.in-Qam64.is)
+
+pub returns-in-Qam64-clause-others : goal.returns-in-Qam64-clause-others
+returns-in-Qam64-clause-others c = others c.args.rate Qam64 _ (sym c.modulation.ensures ∙ c.in-Qam64.is) c.decide_numbers-in-Qam64.ensures.others
