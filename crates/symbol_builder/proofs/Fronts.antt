@@ -1,15 +1,13 @@
 -- A point depends on its first N_BPSC bits alone.
-use Rattle.std.proofs.Common.{◌≡◌, ℕ, zero, suc, ◌+◌, ◌-◌, ◌*◌, ◌<◌, ◌≤◌, List, ◌∷◌, ◌++◌, length, map, take, drop, ap, sym, subst, ◌∙◌, pos, refl, arith}
+use Rattle.std.proofs.Common.{◌≡◌, ℕ, zero, suc, ◌+◌, ◌-◌, ◌*◌, ◌<◌, ◌≤◌, List, ◌∷◌, map, take, drop, ap, sym, subst, ◌∙◌, refl, arith}
 use Rattle.std.proofs.Math.Nat.{mul-le-mul_left}
 use Rattle.std.specs.List.{range_with_len}
-use Rattle.std.proofs.lemmas.List.{drop-take, take-append-le, take-take}
+use Rattle.std.proofs.lemmas.List.{drop-take, take-take}
 use Rattle.fixed_complex.specs.declared.Cx.{Cx}
 use Rattle.rate_table.specs.declared.Modulation.{Modulation}
-use Rattle.rate_table.specs.declared.Modulation.TheVariants.{Bpsk, Qpsk, Qam16, Qam64}
 use Rattle.rate_table.specs.declared.Rate.{Rate}
 use Rattle.rate_table.specs.Table.{bits_of_modulation, row_of}
 use Rattle.rate_table.proofs.ByRate.{coded_bits_by_modulation}
-use Rattle.constellations.specs.Axes.{axis_of}
 use Rattle.constellations.specs.Points.{point_of}
 use Rattle.symbol_builder.specs.Points.{point_at, points_of}
 

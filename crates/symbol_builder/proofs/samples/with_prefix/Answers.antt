@@ -1,5 +1,5 @@
 use borrow.Rule.Slice.PartMut.{put_mid, mid_of}
-use Rattle.std.proofs.Common.{◌≡◌, ℕ, ◌+◌, ◌-◌, ◌%◌, ◌<◌, List, [], ◌++◌, length, take, drop, get_or, map, replicate, append-nil, length-append, ap, sym, ◌∙◌, inl, inr, pos, arith}
+use Rattle.std.proofs.Common.{◌≡◌, ℕ, ◌+◌, ◌-◌, ◌%◌, ◌<◌, List, ◌++◌, length, take, drop, get_or, replicate, append-nil, length-append, ap, sym, ◌∙◌, inl, inr, pos, arith}
 use Rattle.std.proofs.Math.Seq.{take-append_seam, drop-append_seam}
 use Rattle.std.proofs.lemmas.Bool.{cases_lt}
 use Rattle.std.proofs.lemmas.List.{ext_get_or, get_or-append_right, get_or-drop, get_or-take, get_or_append_left}
