@@ -46,7 +46,7 @@ abbrev pub StandsFor : MemoryView → List (Mark × Mark) → Type 0
 StandsFor trellis marks = Holds 2 trellis (map costs_of marks)
 
 -- where a mark stands in the table of what pairs of marks cost
-abbrev pub row_of : Mark → ℕ
-row_of Zero = 0
-row_of One = 1
-row_of Absent = 2
+abbrev pub place_in_costs : Mark → ℕ
+place_in_costs Zero = 0
+place_in_costs One = 1
+place_in_costs Absent = 2

@@ -1,7 +1,7 @@
 //! What pairs of marks cost on the branches of the code: a table.
 ghost use Rattle.std.specs.Prelude.{◌≡◌};
 ghost use Rattle.survivor_memory.specs.Costs.{AreBranchCosts};
-ghost use Rattle.viterbi_lanes.specs.Marks.{costs_of, row_of};
+ghost use Rattle.viterbi_lanes.specs.Marks.{costs_of, place_in_costs};
 
 use crate::Mark;
 use survivor_memory::BranchCosts;
@@ -10,12 +10,12 @@ use survivor_memory::BranchCosts;
 pub fn branch_costs(a: Mark, b: Mark) -> &'static BranchCosts
     ensures { AreBranchCosts (costs_of (a, b)) result.now }
 {
-    &BRANCH_COSTS[row_of(a)][row_of(b)]
+    &BRANCH_COSTS[place_in_costs(a)][place_in_costs(b)]
 }
 
 // Where a mark stands in the table.
-fn row_of(mark: Mark) -> usize
-    ensures { result ≡ row_of mark }
+fn place_in_costs(mark: Mark) -> usize
+    ensures { result ≡ place_in_costs mark }
 {
     match mark {
         Mark::Zero => 0,

@@ -8,7 +8,7 @@ use Rattle.survivor_memory.specs.Costs.{AreBranchCosts, price}
 use Rattle.viterbi_lanes.specs.declared.branches.TheConstants.{BRANCH_COSTS}
 use Rattle.viterbi_lanes.specs.declared.Mark.{Mark}
 use Rattle.viterbi_lanes.specs.declared.Mark.TheVariants.{Zero, One, Absent}
-use Rattle.viterbi_lanes.specs.Marks.{costs_of, row_of}
+use Rattle.viterbi_lanes.specs.Marks.{costs_of, place_in_costs}
 use Rattle.viterbi_lanes.proofs.branches.branch_costs.Goals as goal
 
 -- an entry of the table is what the pair costs there
@@ -26,7 +26,7 @@ holds pair row lower higher = record {
 }
 
 -- so of all rows
-in_table : (a b : Mark) (d : List BranchCosts) (e : BranchCosts) → AreBranchCosts (costs_of (a, b)) (get_or (get_or BRANCH_COSTS (row_of a) d) (row_of b) e)
+in_table : (a b : Mark) (d : List BranchCosts) (e : BranchCosts) → AreBranchCosts (costs_of (a, b)) (get_or (get_or BRANCH_COSTS (place_in_costs a) d) (place_in_costs b) e)
 unfolding is_lower is_higher price parity_a parity_b earlier
 in_table Zero Zero d e = holds _ _ refl refl
 in_table Zero One d e = holds _ _ refl refl
@@ -39,4 +39,4 @@ in_table Absent One d e = holds _ _ refl refl
 in_table Absent Absent d e = holds _ _ refl refl
 
 pub returns : goal.returns
-returns c = rw (c.row_of.ensures, c.row_of-2.ensures) (in_table c.args.a c.args.b _ _)
+returns c = rw (c.place_in_costs.ensures, c.place_in_costs-2.ensures) (in_table c.args.a c.args.b _ _)
