@@ -1,5 +1,5 @@
 //! The decisions of a data number over the estimate of a channel.
-ghost use Rattle.std.specs.Prelude.{◌≡◌, ℕ, ◌+◌, ◌*◌, slice_index, take, ◌^◌, ◌<◌, ◌≤◌, ◌≤ℤ◌, ◌*ℤ◌, pos, unsigned_abs};
+ghost use Rattle.std.specs.Prelude.{◌≡◌, ℕ, ◌+◌, ◌*◌, length, slice_index, take, ◌^◌, ◌<◌, ◌≤◌, ◌≤ℤ◌, ◌*ℤ◌, pos, unsigned_abs};
 ghost use Rattle.bit_lists.specs.Bits.{AreBits};
 ghost use Rattle.fixed_complex.specs.PairLists.{PairsWithin};
 ghost use Rattle.rate_table.specs.declared.Rate.{Rate};
@@ -46,23 +46,24 @@ fn decide_numbers(modulation: Modulation, bins: &[Cx; 64], symbol: &[Cx; 64], ou
     *out = [0; 288];
     for number in 0..48 {
         let bits = decided_number(modulation, bins, symbol, number);
-        put(out, number * width, bits);
+        put_bits(out, number * width, &bits);
     }
 }
 
-// The bits of a data number and the zeros behind them, put at a place.
-fn put(out: &mut [u8; 288], at: usize, bits: [u8; 6])
-    requires room { at + 6 ≤ 288 }
-    requires bits { AreBits bits }
+/// Puts the bits of a data number at a place among the decisions of a symbol (own). Takes no memory.
+#[inline(always)]
+pub fn put_bits(out: &mut [u8; 288], at: usize, bits: &[u8])
+    requires room { at + length bits.now ≤ 288 }
+    requires bits { AreBits bits.now }
     requires out { AreBits out.old }
-    ensures here { (j : ℕ) → j < 6 → slice_index out.new (at + j) ≡ slice_index bits j }
+    ensures here { (j : ℕ) → j < length bits.now
+        → slice_index out.new (at + j) ≡ slice_index bits.now j }
     ensures before { (k : ℕ) → k < at → slice_index out.new k ≡ slice_index out.old k }
-    ensures behind { (k : ℕ) → at + 6 ≤ k → slice_index out.new k ≡ slice_index out.old k }
+    ensures behind { (k : ℕ) → at + length bits.now ≤ k
+        → slice_index out.new k ≡ slice_index out.old k }
     ensures bits { AreBits out.new }
 {
-    for j in 0..6 {
-        out[at + j] = bits[j];
-    }
+    out[at..at + bits.len()].copy_from_slice(bits);
 }
 
 // The bits decided of a data number, with zeros behind them.

@@ -18,6 +18,7 @@ mod decisions;
 pub mod laws;
 
 pub use channel::Estimate;
+pub use decisions::put_bits;
 
 const ZERO: Cx = Cx { re: 0, im: 0 };
 

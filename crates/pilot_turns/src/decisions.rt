@@ -1,5 +1,5 @@
 //! Decisions of a symbol that is turned back.
-ghost use Rattle.std.specs.Prelude.{◌≡◌, ℕ, slice_index, length, take, ◌+◌, ◌^◌, ◌<◌, ◌≤◌, ◌≤ℤ◌, ◌*ℤ◌, pos, unsigned_abs};
+ghost use Rattle.std.specs.Prelude.{◌≡◌, ℕ, slice_index, take, ◌^◌, ◌<◌, ◌≤◌, ◌≤ℤ◌, ◌*ℤ◌, pos, unsigned_abs};
 ghost use Rattle.bit_lists.specs.Bits.{AreBits};
 ghost use Rattle.carrier_equaliser.specs.Decided.{decided_at, decided_over};
 ghost use Rattle.fixed_complex.specs.PairLists.{PairsWithin};
@@ -9,7 +9,7 @@ ghost use Rattle.pilot_turns.specs.Turned.{interleaved_turned, phase_bound_of, t
 ghost use Rattle.rate_table.specs.Table.{row_of};
 
 use carrier_bins::{bin, data_carrier};
-use carrier_equaliser::Estimate;
+use carrier_equaliser::{Estimate, put_bits};
 use constellations::decide_wide;
 use constellations::laws::carriers_of_data;
 use fixed_complex::{Cx, mul};
@@ -49,23 +49,8 @@ pub fn turned_decisions(
     *out = [0; 288];
     for number in 0..48 {
         let bits = decided_number(estimate, rate, symbol, turn, number);
-        put(out, number * width, &bits[..width]);
+        put_bits(out, number * width, &bits[..width]);
     }
-}
-
-// Puts the bits of a data number at a place.
-fn put(out: &mut [u8; 288], at: usize, bits: &[u8])
-    requires room { at + length bits.now ≤ 288 }
-    requires bits { AreBits bits.now }
-    requires out { AreBits out.old }
-    ensures here { (j : ℕ) → j < length bits.now
-        → slice_index out.new (at + j) ≡ slice_index bits.now j }
-    ensures before { (k : ℕ) → k < at → slice_index out.new k ≡ slice_index out.old k }
-    ensures behind { (k : ℕ) → at + length bits.now ≤ k
-        → slice_index out.new k ≡ slice_index out.old k }
-    ensures bits { AreBits out.new }
-{
-    out[at..at + bits.len()].copy_from_slice(bits);
 }
 
 // The bits decided of a data number, with zeros behind them.

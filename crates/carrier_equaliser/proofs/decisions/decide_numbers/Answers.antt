@@ -59,12 +59,12 @@ loop-number-preserved c =
           let here = placed c.args.modulation n k in
           let width : (row_of rate).bits_per_carrier ≡ w = width-of rate ∙ ap bits_of_modulation is in
           elim (cases_lt k (n * w)) [
-            | inl before ↦ c.put.ensures.before k (omega (arith, at, before)) ∙ c.loop-number.invariant.decided rate is k before
+            | inl before ↦ c.put_bits.ensures.before k (omega (arith, at, before)) ∙ c.loop-number.invariant.decided rate is k before
             | inr from ↦
                 let within : k < n * w + w = omega (arith, here.more, below) in
                 let place : k ≡ n * c.bits_per_carrier-width.result + (k - n * w) = omega (arith, at, from) in
-                ap (slice_index c.put.new.out) place
-                ∙ c.put.ensures.here (k - n * w) (omega (arith, here.most, within, from))
+                ap (slice_index c.put_bits.new.out) place
+                ∙ c.put_bits.ensures.here (k - n * w) (omega (arith, here.most, within, from))
                 ∙ ap (λ bits. slice_index bits (k - n * w)) (c.decided_number-bits.ensures.value rate is)
                 ∙ rw (width, here.quotient from within, here.rest from within) refl
           ];
@@ -73,12 +73,12 @@ loop-number-preserved c =
           elim (cases_lt k (n * w + 6)) [
             | inl within ↦
                 let place : k ≡ n * c.bits_per_carrier-width.result + (k - n * w) = omega (arith, at, here.more, past) in
-                ap (slice_index c.put.new.out) place
-                ∙ c.put.ensures.here (k - n * w) (omega (arith, within, here.more, past))
+                ap (slice_index c.put_bits.new.out) place
+                ∙ c.put_bits.ensures.here (k - n * w) (omega (arith, within, here.more, past))
                 ∙ c.decided_number-bits.ensures.others (k - n * w) (omega (arith, here.more, past))
-            | inr behind ↦ c.put.ensures.behind k (omega (arith, at, behind)) ∙ c.loop-number.invariant.rest k (omega (arith, behind))
+            | inr behind ↦ c.put_bits.ensures.behind k (omega (arith, at, behind)) ∙ c.loop-number.invariant.rest k (omega (arith, behind))
           ];
-      bits = c.put.ensures.bits;
+      bits = c.put_bits.ensures.bits;
     }
 
 pub returns-clause-list : goal.returns-clause-list
