@@ -155,7 +155,7 @@ stage_size k size x i k_below h =
     (size-times 741456 1048577 _ (a m) (rounding_size (b m) (d m)) (size-conjugate 1048577 _ (turn-size (2 ^ (6 - k) * (m * i)))))
     (size-times (2 * size) 1387885 (d m) _ (wider (size + size) (2 * size) _ (omega arith) (size-minus size size (x m) (x (m + 2 ^ k)) (h m) (h (m + 2 ^ k))))
     (rw (conjugate_error (pos 1048576) (stage_turn k m) (turn_at (2 ^ (6 - k) * (m * i))) (turn_at (2 ^ (5 - k) * m + 2 ^ (6 - k) * (m * i)))) (size-conjugate 1387885 _ (size-product_of_turns (2 ^ (5 - k) * m) (2 ^ (6 - k) * (m * i)))))) in
-    let sum : IsOfSize v (multiple (pos 1048576) e) = rw same (size-sum (2 ^ k) (741456 * 1048577 + 2 * size * 1387885) _ term) in
+    let sum : IsOfSize v (multiple (pos 1048576) e) = rw same (size-sum (2 ^ k) (741456 * 1048577 + 2 * size * 1387885) _ (λ m _. term m)) in
     record { size = size_of_unscaled 1048576 e.re e.im (v / 1048576 + 1) (omega arith) (wider v (1048576 * (v / 1048576 + 1)) (multiple (pos 1048576) e) (omega arith) sum).size }
 
 -- part by part

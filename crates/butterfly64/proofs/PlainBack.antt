@@ -13,7 +13,7 @@ use Rattle.fixed_complex.proofs.ByTable.{same_pairs, are_same}
 use Rattle.fixed_complex.proofs.PairSizes.{within_wider, within-size, size-times}
 use Rattle.fixed_complex.proofs.Turning.{turn_in_table, whole_turns}
 use Rattle.fixed_complex.proofs.Pairs.{same_parts}
-use Rattle.fixed_complex.proofs.Sums.{same_sums, times_sum, multiple_sum, minus_sums, plus_sums, times_zero, multiple_zero, size-sum}
+use Rattle.fixed_complex.proofs.Sums.{same_sums, times_sum, multiple_sum, minus_sums, plus_sums, times_zero, multiple_zero, size-sum, plus_zero, zero_plus}
 use Rattle.fixed_complex.proofs.TurnLaws.{size-product_of_turns, sum-over_a_turn}
 
 -- ---- identities of pairs
@@ -46,18 +46,6 @@ times_minus x a b = same_parts _ _ (re x.re x.im a.re a.im b.re b.im) (im x.re x
 
     im : (x y a b c d : ℤ) → (x *ℤ b +ℤ y *ℤ a) -ℤ (x *ℤ d +ℤ y *ℤ c) ≡ x *ℤ (b -ℤ d) +ℤ y *ℤ (a -ℤ c)
     im = ring 6 (λ x y a b c d. (x ⊗ b ⊕ y ⊗ a) ⊖ (x ⊗ d ⊕ y ⊗ c) ≗ x ⊗ (b ⊖ d) ⊕ y ⊗ (a ⊖ c)) refl
-
-zero_plus : (a : Cx) → plus zero_pair a ≡ a
-zero_plus a = same_parts _ _ (law a.re) (law a.im)
-  where
-    law : (a : ℤ) → pos 0 +ℤ a ≡ a
-    law = ring 1 (λ a. number (pos 0) ⊕ a ≗ a) refl
-
-plus_zero : (a : Cx) → plus a zero_pair ≡ a
-plus_zero a = same_parts _ _ (law a.re) (law a.im)
-  where
-    law : (a : ℤ) → a +ℤ pos 0 ≡ a
-    law = ring 1 (λ a. a ⊕ number (pos 0) ≗ a) refl
 
 times_number : (x : Cx) (c : ℤ) → times x (record { re = c; im = pos 0 }) ≡ multiple c x
 unfolding times
@@ -116,7 +104,7 @@ module _ (c : ℕ) (c_below : c < 64) where
   near_joint : (d : ℕ) → IsOfSize (64 * 1387885) (minus (back d) (joint d))
   near_joint d =
       rw (minus_sums 64 (λ n. times (turn_at (d * n)) (conjugate (turn_at (c * n)))) (λ n. multiple (pos 1048576) (turn_at ((d + 63 * c) * n))))
-      (size-sum 64 1387885 _ (λ n.
+      (size-sum 64 1387885 _ (λ n _.
       let place : (d + 63 * c) * n ≡ d * n + 63 * (c * n) = omega arith in
       rw (turn_back (c * n), place) (size-product_of_turns (d * n) (63 * (c * n)))))
 
@@ -156,6 +144,6 @@ module _ (c : ℕ) (c_below : c < 64) where
       ∙ ap (minus (sum_below 64 (λ d. times (x d) (back d)))) (sym (of_one_carrier x))
       ∙ minus_sums 64 (λ d. times (x d) (back d)) (λ d. times (x d) (joint d))
       ∙ same_sums _ _ (λ d. times_minus (x d) (back d) (joint d)) 64 in
-      let all = within_wider (64 * (1350 * (64 * 1387885))) (9 * 2 ^ 41) _ enough (within-size (64 * (1350 * (64 * 1387885))) _ (size-sum 64 (1350 * (64 * 1387885)) _ size)) in
+      let all = within_wider (64 * (1350 * (64 * 1387885))) (9 * 2 ^ 41) _ enough (within-size (64 * (1350 * (64 * 1387885))) _ (size-sum 64 (1350 * (64 * 1387885)) _ (λ d _. size d))) in
       let P : Cx → Type 0 = IsWithin (9 * 2 ^ 41) in
       subst P (sym same) all

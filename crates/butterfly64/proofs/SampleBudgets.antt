@@ -14,11 +14,11 @@ use Rattle.butterfly64.specs.Budgets.{budget_of, down_budget_of}
 use Rattle.butterfly64.specs.PlainSums.{plain_up, plain_down}
 use Rattle.fixed_complex.specs.PairLists.{by_256}
 use Rattle.butterfly64.specs.StagedSums.{up_at, down_at}
-use Rattle.fixed_complex.proofs.PairSizes.{wider, within-size}
+use Rattle.fixed_complex.proofs.PairSizes.{size-multiple, wider, within-size}
 use Rattle.butterfly64.proofs.StagedSizes.{grown_by, size-down_at, six_joins}
 use Rattle.fixed_complex.proofs.Pairs.{same_parts}
 use Rattle.fixed_complex.proofs.Sums.{same_sums, multiple_sum}
-use Rattle.butterfly64.proofs.UpBudget.{size-multiple, near_up_sums}
+use Rattle.butterfly64.proofs.UpBudget.{near_up_sums}
 use Rattle.butterfly64.proofs.DownBudget.{near_down_sums}
 
 -- a multiple in a product

@@ -8,12 +8,12 @@ use Rattle.fixed_complex.specs.Laws.{sum_below}
 use Rattle.fixed_complex.specs.Pairs.{IsOfSize, zero_pair, plus, minus, multiple, times, scaled_product}
 use Rattle.fixed_complex.specs.Turns.{turn_at}
 use Rattle.integer_laws.proofs.Ring.{ring, number, ◌⊕◌, ◌⊖◌, ◌⊗◌, ◌≗◌}
-use Rattle.integer_laws.proofs.Sizes.{size_of_rounding, size_of_scaled, size_of_unscaled}
+use Rattle.integer_laws.proofs.Sizes.{size_of_rounding, size_of_unscaled}
 use Rattle.integer_laws.proofs.Order.{pos-le}
 use Rattle.butterfly64.specs.Budgets.{budget_of}
 use Rattle.butterfly64.specs.PlainSums.{plain_up}
 use Rattle.butterfly64.specs.StagedSums.{stage_turn, up_at}
-use Rattle.fixed_complex.proofs.PairSizes.{wider, size-plus, size-minus, size-times}
+use Rattle.fixed_complex.proofs.PairSizes.{wider, size-plus, size-minus, size-multiple, size-times}
 use Rattle.fixed_complex.proofs.TurnLaws.{turn-size, turn-half, size-product_of_turns}
 use Rattle.butterfly64.proofs.Halves.{joined-first, joined-last}
 use Rattle.fixed_complex.proofs.Pairs.{same_parts}
@@ -65,10 +65,6 @@ difference_error c e t a s = same_parts _ _ (law c e.re t.re a.re s.re) (law c e
 pub rounding_size : (w z : Cx) → IsOfSize 741456 (minus (multiple (pos 1048576) (scaled_product w z)) (times w z))
 unfolding scaled_product
 rounding_size w z = record { size = size_of_rounding (times w z).re (times w z).im 524288 741456 (omega arith) (omega arith) }
-
--- the size of a multiple
-pub size-multiple : (n a : ℕ) (x : Cx) → IsOfSize a x → IsOfSize (n * a) (multiple (pos n) x)
-size-multiple n a x h = record { size = size_of_scaled (pos n) x.re x.im n a (omega arith) h.size }
 
 -- a turned sum, where what it is turned from and the table have these errors
 turned_size : (b v : ℕ) (w o p t s : Cx) → IsOfSize 1048577 w → IsOfSize 741456 (minus (multiple (pos 1048576) t) (times w o)) → IsOfSize b (minus (multiple (pos 1048576) o) p) → IsOfSize v (minus (times w p) (multiple (pos 1048576) s))
@@ -182,7 +178,7 @@ table_size k size y j h =
     ∙ ap (minus (sum_below (2 ^ k) (λ m. times w (times (y m) (turn_at (place m)))))) (multiple_sum (pos 1048576) (2 ^ k) (λ m. times (y m) (turn_at (place m + 2 ^ (5 - k) * j))))
     ∙ minus_sums (2 ^ k) (λ m. times w (times (y m) (turn_at (place m)))) (λ m. multiple (pos 1048576) (times (y m) (turn_at (place m + 2 ^ (5 - k) * j))))
     ∙ same_sums _ _ (λ m. product_error w (y m) (turn_at (place m)) (turn_at (place m + 2 ^ (5 - k) * j)) (pos 1048576)) (2 ^ k) in
-    rw same (size-sum (2 ^ k) (size * 1387885) _ (λ m. size-times size 1387885 (y m) _ (h m) (size-product_of_turns (place m) (2 ^ (5 - k) * j))))
+    rw same (size-sum (2 ^ k) (size * 1387885) _ (λ m _. size-times size 1387885 (y m) _ (h m) (size-product_of_turns (place m) (2 ^ (5 - k) * j))))
 
 -- join by join
 pub near_up : (k size : ℕ) (x : ℕ → Cx) → k ≤ 6 → ((m : ℕ) → IsOfSize size (x m)) → (n : ℕ) → n < 2 ^ k → IsOfSize (budget_of k size) (minus (multiple (pos 1048576) (up_at k x n)) (plain_at k x n))

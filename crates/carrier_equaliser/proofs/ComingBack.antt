@@ -8,21 +8,21 @@ use Rattle.fixed_complex.specs.declared.Sample.{Sample}
 use Rattle.fixed_complex.specs.Laws.{sum_below}
 use Rattle.fixed_complex.specs.Pairs.{IsOfSize, IsWithin, conjugate, minus, multiple, plus, times}
 use Rattle.fixed_complex.specs.Turns.{turn_at}
-use Rattle.integer_laws.proofs.Order.{pos-le, unsigned_abs-difference, unsigned_abs-product, unsigned_abs-sum}
+use Rattle.integer_laws.proofs.Order.{unsigned_abs-difference, unsigned_abs-product, unsigned_abs-sum}
 use Rattle.integer_laws.proofs.Ring.{ring, number, ◌⊕◌, ◌⊖◌, ◌⊗◌, ◌≗◌}
-use Rattle.integer_laws.proofs.Sizes.{size_of_parts, size_of_unscaled}
+use Rattle.integer_laws.proofs.Sizes.{size_of_unscaled}
 use Rattle.butterfly64.specs.PlainSums.{plain_down, plain_up}
 use Rattle.fixed_complex.specs.PairLists.{entry}
-use Rattle.fixed_complex.proofs.Sums.{minus_sums, multiple_sum, same_sums}
+use Rattle.fixed_complex.proofs.Sums.{minus_sums, multiple_sum, same_sums, size-sum}
 use Rattle.fixed_complex.proofs.Pairs.{same_parts}
-use Rattle.fixed_complex.proofs.PairSizes.{size-conjugate, size-plus, size-times, wider}
+use Rattle.fixed_complex.proofs.PairSizes.{size-conjugate, size-multiple, size_by_parts, size-plus, size-times, wider}
 use Rattle.fixed_complex.proofs.TurnLaws.{turn-size, turn-sum}
-use Rattle.butterfly64.proofs.UpBudget.{size-multiple}
 use Rattle.plain_waves.specs.Bodies.{all_times, plain_body}
 use Rattle.plain_waves.specs.Nearness.{AreNearPlain}
 use Rattle.fixed_complex.proofs.PairLists.{entry-map, everywhere_within}
 use Rattle.carrier_equaliser.specs.Nearness.{AreNearPlainSums}
-use Rattle.carrier_equaliser.specs.Received.{pair_at, received_at}
+use Rattle.fixed_complex.specs.Samples.{pair_at}
+use Rattle.carrier_equaliser.specs.Received.{received_at}
 use Rattle.carrier_equaliser.specs.Laws.{ReceivedAreNear, ReceivedAtAnyScale}
 use Rattle.butterfly64.proofs.SampleBudgets.{near_received}
 use Rattle.plain_waves.proofs.Places.{plain_body-local}
@@ -66,19 +66,9 @@ by_body y p x = same_parts _ _ (law y.re p.re x.re) (law y.im p.im x.im)
     law = ring 3 (λ y p x. number (pos 2199023255552) ⊗ (y ⊖ number (pos 32) ⊗ x) ≗ (number (pos 2199023255552) ⊗ y ⊖ p) ⊕ (p ⊖ number (pos 70368744177664) ⊗ x)) refl
 
 -- ---- as sizes
-size-sum_below : (n b : ℕ) (f : ℕ → Cx) → ((m : ℕ) → m < n → IsOfSize b (f m)) → IsOfSize (n * b) (sum_below n f)
-unfolding sum_below
-size-sum_below zero b f h = record { size = pos-le 0 (zero * b * (zero * b)) (omega arith) }
-size-sum_below (suc n) b f h =
-    wider (n * b + b) (suc n * b) _ (omega arith) (size-plus (n * b) b (sum_below n f) (f n) (size-sum_below n b f (λ m lt. h m (omega arith))) (h n (omega arith)))
-
--- the size of a pair by a bound on its components
-pub size_by_parts : (a b : ℕ) (z : Cx) → a * a + a * a ≤ b * b → IsWithin a z → IsOfSize b z
-size_by_parts a b z enough within = record { size = size_of_parts z.re z.im a a b within.re within.im enough }
-
 size-plain_down : (bound : ℕ) (e : ℕ → Cx) (c : ℕ) → ((n : ℕ) → n < 64 → IsWithin (2097152 * bound) (e n)) → IsOfSize (64 * (2965821 * bound * 1048577)) (plain_down e c)
 size-plain_down bound e c within =
-    size-sum_below 64 (2965821 * bound * 1048577) (λ n. times (e n) (conjugate (turn_at (c * n))))
+    size-sum 64 (2965821 * bound * 1048577) (λ n. times (e n) (conjugate (turn_at (c * n))))
     (λ n lt. size-times (2965821 * bound) 1048577 (e n) (conjugate (turn_at (c * n))) (size_by_parts (2097152 * bound) (2965821 * bound) (e n) (omega arith) (within n lt)) (size-conjugate 1048577 (turn_at (c * n)) (turn-size (c * n))))
 
 size_back : (bound : ℕ) (y p x : Cx) → IsOfSize (1 * (2 ^ 21 * 59316417 + 64 * (2965821 * 1048577 * bound))) (minus (multiple (pos 2199023255552) y) p) → IsWithin (9 * 2 ^ 41) (minus p (multiple (pos 70368744177664) x)) → IsOfSize (91 * bound + 70) (minus y (multiple (pos 32) x))

@@ -6,7 +6,8 @@ use Rattle.fixed_complex.specs.PairLists.{entry}
 use Rattle.fixed_complex.specs.Pairs.{IsOfSize, IsWithin, minus, multiple}
 use Rattle.butterfly64.specs.PlainSums.{plain_down}
 use Rattle.carrier_equaliser.specs.Nearness.{AreNearPlainSums, IsNearWave}
-use Rattle.carrier_equaliser.specs.Received.{pair_at, received}
+use Rattle.fixed_complex.specs.Samples.{pair_at}
+use Rattle.carrier_equaliser.specs.Received.{received}
 
 -- the received carriers of samples of 16 bits are within 40 of the plain sums
 abbrev pub ReceivedAreNear : Type 0

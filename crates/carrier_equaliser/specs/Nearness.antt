@@ -5,7 +5,7 @@ use Rattle.fixed_complex.specs.declared.Sample.{Sample}
 use Rattle.fixed_complex.specs.Pairs.{IsWithin, minus, multiple}
 use Rattle.butterfly64.specs.PlainSums.{plain_down}
 use Rattle.fixed_complex.specs.PairLists.{entry}
-use Rattle.carrier_equaliser.specs.Received.{pair_at}
+use Rattle.fixed_complex.specs.Samples.{pair_at}
 
 -- a carrier is within a bound of a plain sum over 2^20, in each component
 pub record IsNearPlainSum (bound : ℕ) (carrier sum : Cx) : Type 0 where

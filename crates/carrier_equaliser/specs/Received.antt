@@ -3,14 +3,10 @@ use Rattle.std.specs.Prelude.{ℕ, List, map}
 use Rattle.std.specs.List.{range_with_len}
 use Rattle.fixed_complex.specs.declared.Cx.{Cx}
 use Rattle.fixed_complex.specs.declared.Sample.{Sample}
-use Rattle.fixed_complex.specs.Samples.{pair_of, sample_at}
+use Rattle.fixed_complex.specs.Samples.{pair_at}
 use Rattle.fixed_complex.specs.PairLists.{by_256}
 use Rattle.fixed_complex.specs.Pairs.{rounded_pair}
 use Rattle.butterfly64.specs.StagedSums.{down_at}
-
--- the sample at a place of a list, as a pair
-abbrev pub pair_at : List Sample → ℕ → Cx
-pair_at samples n = pair_of (sample_at samples n)
 
 -- what is received in a bin: the staged sum `down` of the pairs times 256, over 256 and rounded half up
 abbrev pub received_at : (ℕ → Cx) → ℕ → Cx

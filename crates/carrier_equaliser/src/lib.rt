@@ -4,9 +4,9 @@
 ghost use Rattle.std.specs.Prelude.{◌≡◌, ℕ, ◌^◌, ◌<◌, pos};
 ghost use Rattle.fixed_complex.specs.Pairs.{IsWithin, multiple, rounded_pair};
 ghost use Rattle.fixed_complex.specs.PairLists.{PairsOfSize, PairsWithin, by_256, entry};
-ghost use Rattle.fixed_complex.specs.Samples.{pair_of};
+ghost use Rattle.fixed_complex.specs.Samples.{pair_at, pair_of};
 ghost use Rattle.modem_ports.specs.Counts.{raised_by};
-ghost use Rattle.carrier_equaliser.specs.Received.{pair_at, received};
+ghost use Rattle.carrier_equaliser.specs.Received.{received};
 ghost use Rattle.carrier_equaliser.specs.Nearness.{AreNearPlainSums};
 
 use butterfly64::down_words;

@@ -2,28 +2,17 @@
 use Rattle.std.proofs.Common.{◌≡◌, ℕ, zero, suc, ◌+◌, ◌*◌, ◌<◌, ◌≤◌, refl, ap, sym, ◌∙◌, arith, inl, inr, mul-le-mul, ℤ, pos, ◌+ℤ◌, ◌-ℤ◌, ◌*ℤ◌, neg_ℤ, ◌≤ℤ◌, unsigned_abs}
 use Rattle.std.proofs.lemmas.Bool.{cases_lt}
 use Rattle.integer_laws.specs.Size.{sum_of_squares}
-use Rattle.integer_laws.proofs.Order.{le_of_pos-le, pos-le, unsigned_abs-le}
+use Rattle.integer_laws.proofs.Order.{pos-le, unsigned_abs-le}
 use Rattle.integer_laws.proofs.Ring.{equal_by_multiple, ring, negated, number, square, ◌⊕◌, ◌⊖◌, ◌⊗◌, ◌≗◌}
 use Rattle.integer_laws.proofs.Sizes.{size_of_nat, size_of_scaled, size_of_unscaled, size_to_nat, sum_of_squares-scaled, sum_of_squares_is}
 use Rattle.fixed_complex.specs.declared.Cx.{Cx}
-use Rattle.fixed_complex.specs.Pairs.{IsOfSize, conjugate, minus, multiple, plus, times}
+use Rattle.fixed_complex.specs.Pairs.{IsAtLeastOfSize, IsOfSize, conjugate, minus, multiple, plus, squared_size, times}
 use Rattle.fixed_complex.proofs.Pairs.{same_parts}
-use Rattle.fixed_complex.proofs.PairSizes.{size-minus, size-plus, size-times, wider}
-use Rattle.butterfly64.proofs.UpBudget.{size-multiple}
+use Rattle.fixed_complex.proofs.PairSizes.{least_squared, size-minus, size-multiple, size-plus, size-times, squared_size_is, wider}
 use Rattle.rate_table.specs.declared.Modulation.{Modulation}
 use Rattle.constellations.specs.Axes.{amplitude_of}
 use Rattle.constellations.specs.Decisions.{IsNear}
-use Rattle.decided_axis.specs.Channels.{IsAtLeastOfSize, IsCarried, IsEstimated}
-
--- the square of a pair's size, as a natural number
-abbrev pub squared_size : Cx → ℕ
-squared_size a = unsigned_abs a.re * unsigned_abs a.re + unsigned_abs a.im * unsigned_abs a.im
-
-pub squared_size_is : (a : Cx) → sum_of_squares a.re a.im ≡ pos (squared_size a)
-squared_size_is a = sum_of_squares_is a.re a.im
-
-least_squared : (bound : ℕ) (a : Cx) → IsAtLeastOfSize bound a → bound * bound ≤ squared_size a
-least_squared bound a least = le_of_pos-le (bound * bound) (squared_size a) (rw (squared_size_is a) at least.size)
+use Rattle.decided_axis.specs.Channels.{IsCarried, IsEstimated}
 
 -- ---- an axis, from the size of the error
 part_below : (p e m l a : ℕ) → p * p ≤ e * e * m → l * l ≤ m → e < a * l → p < a * m
@@ -136,8 +125,8 @@ two_law = ring 6 (λ s σ y z g f. (s ⊗ (σ ⊗ (y ⊕ z)) ⊖ number (pos 414
 other_law : (s σ y z g f : ℤ) → (s *ℤ (σ *ℤ (y +ℤ z)) -ℤ pos 41472 *ℤ g) -ℤ (σ *ℤ (s *ℤ y -ℤ pos 32 *ℤ (pos 648 *ℤ σ *ℤ g +ℤ pos 0 *ℤ f)) +ℤ σ *ℤ (s *ℤ z -ℤ pos 32 *ℤ (pos 648 *ℤ σ *ℤ g +ℤ pos 0 *ℤ f))) ≡ pos 41472 *ℤ g *ℤ (σ *ℤ σ -ℤ pos 1)
 other_law = ring 6 (λ s σ y z g f. (s ⊗ (σ ⊗ (y ⊕ z)) ⊖ number (pos 41472) ⊗ g) ⊖ (σ ⊗ (s ⊗ y ⊖ number (pos 32) ⊗ (number (pos 648) ⊗ σ ⊗ g ⊕ number (pos 0) ⊗ f)) ⊕ σ ⊗ (s ⊗ z ⊖ number (pos 32) ⊗ (number (pos 648) ⊗ σ ⊗ g ⊕ number (pos 0) ⊗ f))) ≗ number (pos 41472) ⊗ g ⊗ (σ ⊗ σ ⊖ number (pos 1))) refl
 
--- 648 times a sign
-abbrev signed : ℤ → Cx
+-- 648 times a sign, as pilots and the long training field carry it
+abbrev pub signed : ℤ → Cx
 signed sign = record { re = pos 648 *ℤ sign; im = pos 0 }
 
 -- a sign keeps a size

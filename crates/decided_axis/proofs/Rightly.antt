@@ -1,12 +1,13 @@
 -- The bits of a point are decided where its carrier and the estimate are near enough.
 use Rattle.std.proofs.Common.{take, ap, ◌∙◌}
-use Rattle.fixed_complex.specs.Pairs.{conjugate, times}
+use Rattle.fixed_complex.specs.Pairs.{conjugate, squared_size, times}
 use Rattle.rate_table.specs.Table.{bits_of_modulation}
 use Rattle.constellations.specs.Decisions.{decided}
 use Rattle.constellations.specs.Points.{point_of}
 use Rattle.decided_axis.specs.Channels.{size_of_point}
 use Rattle.decided_axis.specs.Laws.{DecidedRightly}
-use Rattle.decided_axis.proofs.Channels.{deviation, left_of, near, squared_size, squared_size_is}
+use Rattle.fixed_complex.proofs.PairSizes.{squared_size_is}
+use Rattle.decided_axis.proofs.Channels.{deviation, left_of, near}
 use Rattle.decided_axis.proofs.Points.{bits_back, point_size}
 
 pub decided_rightly : DecidedRightly

@@ -7,12 +7,11 @@ use Rattle.fixed_complex.specs.PairLists.{entry}
 use Rattle.fixed_complex.specs.Pairs.{IsOfSize, conjugate, minus, multiple, plus, times}
 use Rattle.fixed_complex.specs.Turns.{turn_at}
 use Rattle.fixed_complex.proofs.Pairs.{same_parts}
-use Rattle.fixed_complex.proofs.PairSizes.{size-plus, size-times, wider}
+use Rattle.fixed_complex.proofs.PairSizes.{size-multiple, size-plus, size-times, size_by_parts, wider}
 use Rattle.fixed_complex.proofs.Sums.{same_sums, times_sum}
 use Rattle.butterfly64.specs.PlainSums.{plain_down}
-use Rattle.butterfly64.proofs.UpBudget.{size-multiple}
 use Rattle.plain_waves.specs.Bodies.{plain_body}
-use Rattle.carrier_equaliser.proofs.ComingBack.{at_any_scale, plain_back, size_by_parts}
+use Rattle.carrier_equaliser.proofs.ComingBack.{at_any_scale, plain_back}
 use Rattle.decided_axis.specs.Laws.{CarriedByOne, CarriedByWave}
 
 -- ---- by way of the plain sum of the wave

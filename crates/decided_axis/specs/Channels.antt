@@ -1,16 +1,12 @@
 -- Received carriers and an estimate over one channel, up to errors (own). The scale stands in place of a quotient:
 -- what is said of a pair holds of the scale times the pair.
-use Rattle.std.specs.Prelude.{ℕ, ◌+◌, ◌*◌, ◌<◌, List, pos, ◌+ℤ◌, ◌*ℤ◌, ◌≤ℤ◌}
+use Rattle.std.specs.Prelude.{ℕ, ◌+◌, ◌*◌, ◌<◌, List, pos}
 use Rattle.fixed_complex.specs.declared.Cx.{Cx}
 use Rattle.fixed_complex.specs.PairLists.{entry}
-use Rattle.fixed_complex.specs.Pairs.{IsOfSize, minus, multiple, times}
+use Rattle.fixed_complex.specs.Pairs.{IsAtLeastOfSize, IsOfSize, minus, multiple, times}
 use Rattle.rate_table.specs.declared.Modulation.{Modulation}
 use Rattle.rate_table.specs.declared.Modulation.TheVariants.{Bpsk, Qpsk, Qam16, Qam64}
 use Rattle.constellations.specs.Axes.{amplitude_of}
-
--- the pair is at least so large in size: re^2 + im^2 is at least the bound's square
-pub record IsAtLeastOfSize (bound : ℕ) (a : Cx) : Type 0 where
-  pub size : pos (bound * bound) ≤ℤ (a.re *ℤ a.re +ℤ a.im *ℤ a.im)
 
 -- a carrier that was sent comes back as 32 times itself and the channel over the scale, to within an error in size
 pub record IsCarried (scale error : ℕ) (channel sent received : Cx) : Type 0 where

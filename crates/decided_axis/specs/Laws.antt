@@ -5,7 +5,7 @@ use Rattle.bit_lists.specs.Bits.{AreBits}
 use Rattle.fixed_complex.specs.declared.Cx.{Cx}
 use Rattle.fixed_complex.specs.declared.Sample.{Sample}
 use Rattle.fixed_complex.specs.PairLists.{entry}
-use Rattle.fixed_complex.specs.Pairs.{IsOfSize, IsWithin, conjugate, minus, multiple, plus, times}
+use Rattle.fixed_complex.specs.Pairs.{IsAtLeastOfSize, IsOfSize, IsWithin, conjugate, minus, multiple, plus, times}
 use Rattle.rate_table.specs.declared.Modulation.{Modulation}
 use Rattle.rate_table.specs.declared.Rate.{Rate}
 use Rattle.rate_table.specs.Table.{bits_of_modulation, row_of}
@@ -22,7 +22,7 @@ use Rattle.symbol_builder.specs.Points.{points_of_code}
 use Rattle.carrier_equaliser.specs.Decided.{interleaved_decisions}
 use Rattle.carrier_equaliser.specs.Estimates.{estimate_of}
 use Rattle.carrier_equaliser.specs.Nearness.{AreNearPlainSums, IsNearWave}
-use Rattle.decided_axis.specs.Channels.{Allows, AreCarried, IsAtLeastOfSize, IsCarried, IsEstimated, IsOver, size_of_point}
+use Rattle.decided_axis.specs.Channels.{Allows, AreCarried, IsCarried, IsEstimated, IsOver, size_of_point}
 
 -- the point of N_BPSC bits is at most so large in size
 abbrev pub PointsOfSize : Type 0

@@ -89,4 +89,4 @@ near_late x c late size most sizes =
     ∙ minus_sums 64 (λ n. times (conjugate w) (f n)) (λ n. multiple (pos 1048576) (g n))
     ∙ same_sums _ _ (λ n. product_error (plain_body x n) (turn_at (c * n)) (turn_at (c * (n + late))) w (pos 1048576)) 64 in
     rw (late_sum x c late most, same)
-    (size-sum 64 (size * 1387885) _ (λ n. size-times size 1387885 (plain_body x n) (conjugate (e n)) (sizes n) (size-conjugate 1387885 (e n) (small n))))
+    (size-sum 64 (size * 1387885) _ (λ n _. size-times size 1387885 (plain_body x n) (conjugate (e n)) (sizes n) (size-conjugate 1387885 (e n) (small n))))

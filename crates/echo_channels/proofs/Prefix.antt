@@ -10,14 +10,13 @@ use Rattle.fixed_complex.specs.PairLists.{entry}
 use Rattle.fixed_complex.specs.Pairs.{IsOfSize, conjugate, minus, multiple, plus, times, zero_pair}
 use Rattle.fixed_complex.specs.Turns.{turn_at}
 use Rattle.fixed_complex.proofs.Pairs.{same_parts}
-use Rattle.fixed_complex.proofs.PairSizes.{size-minus, size-times, wider}
+use Rattle.fixed_complex.proofs.PairSizes.{size-minus, size-multiple, size-times, size_by_parts, wider}
 use Rattle.fixed_complex.proofs.Sums.{minus_sums, multiple_sum, plus_sums, same_sums, sum-local, times_sum}
 use Rattle.butterfly64.specs.PlainSums.{plain_down}
-use Rattle.butterfly64.proofs.UpBudget.{size-multiple}
 use Rattle.plain_waves.specs.Bodies.{plain_body}
 use Rattle.echo_taps.specs.Taps.{IsEcho}
 use Rattle.echo_taps.proofs.TapSums.{echo_of_size}
-use Rattle.carrier_equaliser.proofs.ComingBack.{plain_back, size_by_parts}
+use Rattle.carrier_equaliser.proofs.ComingBack.{plain_back}
 use Rattle.decided_axis.specs.Bodies.{FitABody}
 use Rattle.decided_axis.proofs.Waves.{carried_by_wave, turned_sum}
 use Rattle.echo_channels.specs.Channels.{channel_of, echoed_body}

@@ -6,20 +6,18 @@ use Rattle.integer_laws.proofs.Ring.{ring, ◌⊖◌, ◌≗◌}
 use Rattle.integer_laws.proofs.Sizes.{size_of_nat, size_to_nat, sum_of_squares-scaled, sum_of_squares_is}
 use Rattle.fixed_complex.specs.declared.Cx.{Cx}
 use Rattle.fixed_complex.specs.PairLists.{entry}
-use Rattle.fixed_complex.specs.Pairs.{IsOfSize, IsWithin, conjugate, minus, times}
+use Rattle.fixed_complex.specs.Pairs.{IsOfSize, IsWithin, conjugate, minus, times, IsAtLeastOfSize}
 use Rattle.fixed_complex.specs.Turns.{turn_at}
 use Rattle.fixed_complex.proofs.PairLists.{entry-map}
 use Rattle.fixed_complex.proofs.Pairs.{same_parts}
-use Rattle.fixed_complex.proofs.PairSizes.{size-conjugate, size-minus, wider}
+use Rattle.fixed_complex.proofs.PairSizes.{size-conjugate, size-minus, size-multiple, wider}
 use Rattle.fixed_complex.proofs.TurnLaws.{turn-size}
-use Rattle.butterfly64.proofs.UpBudget.{size-multiple}
 use Rattle.plain_waves.specs.Bodies.{all_times, plain_body}
 use Rattle.plain_waves.proofs.Loads.{plain_within}
 use Rattle.plain_waves.proofs.Places.{plain_body-local}
 use Rattle.echo_taps.specs.Taps.{IsEcho}
 use Rattle.echo_taps.proofs.TapSums.{echo_beside_first, echo_of_size, echo_within}
 use Rattle.decided_axis.specs.Bodies.{FitABody}
-use Rattle.decided_axis.specs.Channels.{IsAtLeastOfSize}
 use Rattle.echo_channels.specs.Channels.{channel_of}
 use Rattle.echo_channels.specs.Laws.{BodyIsSmall, ChannelIsLarge, ChannelIsSmall}
 

@@ -3,11 +3,11 @@ use Rattle.std.specs.Prelude.{ℕ, ◌+◌, ◌*◌, ◌^◌, ◌<◌, List, pos
 use Rattle.fixed_complex.specs.declared.Cx.{Cx}
 use Rattle.fixed_complex.specs.declared.Sample.{Sample}
 use Rattle.fixed_complex.specs.PairLists.{entry}
-use Rattle.fixed_complex.specs.Pairs.{IsOfSize, IsWithin, minus, multiple, times}
+use Rattle.fixed_complex.specs.Pairs.{IsAtLeastOfSize, IsOfSize, IsWithin, minus, multiple, times}
 use Rattle.echo_taps.specs.Taps.{IsEcho}
 use Rattle.carrier_equaliser.specs.Nearness.{AreNearPlainSums}
 use Rattle.decided_axis.specs.Bodies.{FitABody}
-use Rattle.decided_axis.specs.Channels.{AreCarried, IsAtLeastOfSize}
+use Rattle.decided_axis.specs.Channels.{AreCarried}
 use Rattle.echo_channels.specs.Channels.{IsNearEchoedBody, channel_of, echoed_body}
 
 -- a channel is at least 0.749 of 2^30 in size

@@ -15,7 +15,7 @@ use Rattle.fixed_complex.specs.Numbers.{NumbersWithin, number_at}
 use Rattle.fixed_complex.specs.PairLists.{entry}
 use Rattle.fixed_complex.specs.Pairs.{IsWithin, plus, times, zero_pair}
 use Rattle.fixed_complex.specs.Rounding.{half_up}
-use Rattle.fixed_complex.specs.Samples.{pair_of, sample_at}
+use Rattle.fixed_complex.specs.Samples.{pair_at, pair_of, sample_at}
 use Rattle.lane_kernels.specs.Lanes.{AreOf16Bits, components_of, eight, four}
 use Rattle.lane_kernels.proofs.Bounds.{size-le}
 use Rattle.lane_kernels.proofs.FourLanes.{four-each}
@@ -25,7 +25,7 @@ use Rattle.lane_kernels.proofs.Totals.{eight-each}
 use Rattle.echo_taps.specs.declared.lanes.Block.{Block}
 use Rattle.echo_taps.specs.declared.lanes.Four.{Four}
 use Rattle.echo_taps.specs.Blocks.{AreBlockSums, AreSums, IsFourWithin, echo_below, gathered_by, held_block, held_four, held_part, held_parts, in_turn, parts_of}
-use Rattle.echo_taps.specs.Echoes.{earlier, gathered, held_sample, pairs_at}
+use Rattle.echo_taps.specs.Echoes.{earlier, gathered, held_sample}
 
 -- ---- a tap's numbers in lanes
 turn-within : (a b : ℤ) (bound : ℕ) → unsigned_abs a ≤ bound → unsigned_abs b ≤ bound → NumbersWithin bound (in_turn a b)
@@ -73,7 +73,7 @@ parts-within f bound h =
 
 pub sums_within : (count : ℕ) (taps : List Cx) (samples : List Sample) (place : ℕ) (sums : Four) → count ≤ 8 → AreSums count taps samples place sums → IsFourWithin (2 ^ 29) sums
 sums_within count taps samples place sums few are =
-    rw are.value (parts-within (λ n. gathered_by count taps (pairs_at samples) (place + n)) (2 ^ 29) (λ n below.
+    rw are.value (parts-within (λ n. gathered_by count taps (pair_at samples) (place + n)) (2 ^ 29) (λ n below.
     let h = are.within n below in record { re = omega (arith, h.re); im = omega (arith, h.im) }))
 
 real_part : (s : ℤ) (tap : Cx) (a : Sample) → s +ℤ (tap.re *ℤ a.i +ℤ neg_ℤ tap.im *ℤ a.q) ≡ s +ℤ (times tap (pair_of a)).re
@@ -121,14 +121,14 @@ sum-within count a b h k = record { re = omega (arith, ints, h.re, k.re); im = o
 
 pub one_delay_more : (taps : List Cx) (samples : List Sample) (late place at : ℕ) (sums result : Four) (a : ℕ → Sample) → late ≤ place → at ≡ place - late → ((n : ℕ) → n < 4 → a n ≡ sample_at samples (at + n)) → ((n : ℕ) → n < 4 → IsOf16Bits (a n))
     → IsWithin 1024 (entry taps late) → AreSums late taps samples place sums
-    → result ≡ parts_of (λ n. plus (gathered_by late taps (pairs_at samples) (place + n)) (times (entry taps late) (pair_of (a n)))) → AreSums (late + 1) taps samples place result
+    → result ≡ parts_of (λ n. plus (gathered_by late taps (pair_at samples) (place + n)) (times (entry taps late) (pair_of (a n)))) → AreSums (late + 1) taps samples place result
 one_delay_more taps samples late place at sums result a before at_is a_is bits tap are is =
     let step = λ (n : ℕ) (below : n < 4).
     let there : at + n ≡ place + n - late = omega arith in
-    let same : earlier (pairs_at samples) (place + n) late ≡ pair_of (a n) =
-    earlier-is (pairs_at samples) (place + n) late (omega arith) ∙ ap (pairs_at samples) (sym there) ∙ ap (λ s. pair_of s) (sym (a_is n below)) in
-    let more : gathered_by (late + 1) taps (pairs_at samples) (place + n) ≡ plus (gathered_by late taps (pairs_at samples) (place + n)) (times (entry taps late) (pair_of (a n))) =
-    gathered-more taps (pairs_at samples) late (place + n) ∙ ap (λ x. plus (gathered_by late taps (pairs_at samples) (place + n)) (times (entry taps late) x)) same in
+    let same : earlier (pair_at samples) (place + n) late ≡ pair_of (a n) =
+    earlier-is (pair_at samples) (place + n) late (omega arith) ∙ ap (pair_at samples) (sym there) ∙ ap (λ s. pair_of s) (sym (a_is n below)) in
+    let more : gathered_by (late + 1) taps (pair_at samples) (place + n) ≡ plus (gathered_by late taps (pair_at samples) (place + n)) (times (entry taps late) (pair_of (a n))) =
+    gathered-more taps (pair_at samples) late (place + n) ∙ ap (λ x. plus (gathered_by late taps (pair_at samples) (place + n)) (times (entry taps late) x)) same in
     more in
     record {
       value = is ∙ sym (parts-same _ _ step);
@@ -158,11 +158,11 @@ plus-none a = λ i. record { re = re i; im = im i }
 no_delay_more : (taps : List Cx) (samples : List Sample) (late place : ℕ) (sums : Four) → entry taps late ≡ zero_pair → AreSums late taps samples place sums → AreSums (late + 1) taps samples place sums
 no_delay_more taps samples late place sums none are =
     let step = λ (n : ℕ).
-    let same : gathered_by (late + 1) taps (pairs_at samples) (place + n) ≡ gathered_by late taps (pairs_at samples) (place + n) =
-    gathered-more taps (pairs_at samples) late (place + n)
-    ∙ ap (λ x. plus (gathered_by late taps (pairs_at samples) (place + n)) (times x (earlier (pairs_at samples) (place + n) late))) none
-    ∙ ap (plus (gathered_by late taps (pairs_at samples) (place + n))) (times-none (earlier (pairs_at samples) (place + n) late))
-    ∙ plus-none (gathered_by late taps (pairs_at samples) (place + n)) in
+    let same : gathered_by (late + 1) taps (pair_at samples) (place + n) ≡ gathered_by late taps (pair_at samples) (place + n) =
+    gathered-more taps (pair_at samples) late (place + n)
+    ∙ ap (λ x. plus (gathered_by late taps (pair_at samples) (place + n)) (times x (earlier (pair_at samples) (place + n) late))) none
+    ∙ ap (plus (gathered_by late taps (pair_at samples) (place + n))) (times-none (earlier (pair_at samples) (place + n) late))
+    ∙ plus-none (gathered_by late taps (pair_at samples) (place + n)) in
     same in
     record {
       value = are.value ∙ sym (parts-same _ _ (λ n _. step n));
@@ -218,7 +218,7 @@ one_by_one (x ∷ l) a b c d = ap (λ r. x ∷ r) (one_by_one l a b c d)
 
 module _ (taps : List Cx) (samples : List Sample) where
   abbrev sample_of : ℕ → Sample
-  sample_of place = held_sample (gathered taps (pairs_at samples) place)
+  sample_of place = held_sample (gathered taps (pair_at samples) place)
 
   four-echoed : (place : ℕ) (sums : Four) → AreSums 8 taps samples place sums → held_four sums ≡ four (λ n. sample_of (place + n))
   unfolding gathered

@@ -1,6 +1,7 @@
 -- Sums of an echo, sixteen places at once (own).
 use Rattle.std.specs.Prelude.{ℕ, ◌+◌, ◌*◌, ◌^◌, ◌<◌, ◌≡◌, List, [], ◌∷◌, ◌++◌, map, ℤ}
 use Rattle.std.specs.List.{range_with_len}
+use Rattle.fixed_complex.specs.Samples.{pair_at}
 use Rattle.fixed_complex.specs.declared.Cx.{Cx}
 use Rattle.fixed_complex.specs.declared.Sample.{Sample}
 use Rattle.fixed_complex.specs.Laws.{sum_below}
@@ -12,7 +13,7 @@ use Rattle.lane_kernels.specs.Kernels.{held}
 use Rattle.lane_kernels.specs.Lanes.{four}
 use Rattle.echo_taps.specs.declared.lanes.Block.{Block}
 use Rattle.echo_taps.specs.declared.lanes.Four.{Four}
-use Rattle.echo_taps.specs.Echoes.{earlier, gathered, held_sample, pairs_at}
+use Rattle.echo_taps.specs.Echoes.{earlier, gathered, held_sample}
 
 -- two numbers in turn, four times each
 abbrev pub in_turn : ℤ → ℤ → List ℤ
@@ -33,9 +34,9 @@ gathered_by count taps pairs place = sum_below count (λ late. times (entry taps
 
 -- four sums are what comes together by the least so many delays, from a place on
 pub record AreSums (count : ℕ) (taps : List Cx) (samples : List Sample) (place : ℕ) (sums : Four) : Type 0 where
-  pub value : sums ≡ parts_of (λ n. gathered_by count taps (pairs_at samples) (place + n))
+  pub value : sums ≡ parts_of (λ n. gathered_by count taps (pair_at samples) (place + n))
   pub within : (n : ℕ) → n < 4
-      → IsWithin (count * 2 ^ 26) (gathered_by count taps (pairs_at samples) (place + n))
+      → IsWithin (count * 2 ^ 26) (gathered_by count taps (pair_at samples) (place + n))
 
 -- sixteen sums are what comes together so
 pub record AreBlockSums (count : ℕ) (taps : List Cx) (samples : List Sample) (place : ℕ) (block : Block) : Type 0 where
@@ -65,4 +66,4 @@ held_block block = held_four block.first ++ held_four block.second ++ held_four 
 -- the samples of an echo before a place
 abbrev pub echo_below : List Cx → List Sample → ℕ → List Sample
 echo_below taps samples place =
-    map (λ place. held_sample (gathered taps (pairs_at samples) place)) (range_with_len 0 place)
+    map (λ place. held_sample (gathered taps (pair_at samples) place)) (range_with_len 0 place)

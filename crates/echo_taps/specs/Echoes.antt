@@ -6,12 +6,8 @@ use Rattle.fixed_complex.specs.declared.Sample.{Sample}
 use Rattle.fixed_complex.specs.Laws.{sum_below}
 use Rattle.fixed_complex.specs.PairLists.{entry}
 use Rattle.fixed_complex.specs.Pairs.{rounded_pair, times, zero_pair}
-use Rattle.fixed_complex.specs.Samples.{pair_of, sample_at}
+use Rattle.fixed_complex.specs.Samples.{pair_at}
 use Rattle.lane_kernels.specs.Kernels.{held}
-
--- samples as pairs, by place: (0, 0) past the end
-abbrev pub pairs_at : List Sample → ℕ → Cx
-pairs_at samples n = pair_of (sample_at samples n)
 
 -- the pair so many places before a place, and (0, 0) before the first
 abbrev pub earlier : (ℕ → Cx) → ℕ → ℕ → Cx
@@ -29,5 +25,5 @@ held_sample sum =
 -- the echo of samples: seven samples more; samples before the first and behind the last are silent
 unfoldable pub echo_of : List Cx → List Sample → List Sample
 echo_of taps samples =
-    map (λ place. held_sample (gathered taps (pairs_at samples) place))
+    map (λ place. held_sample (gathered taps (pair_at samples) place))
     (range_with_len 0 (length samples + 7))

@@ -5,8 +5,8 @@ use Rattle.fixed_complex.specs.declared.Sample.{Sample}
 use Rattle.fixed_complex.specs.Laws.{sum_below}
 use Rattle.fixed_complex.specs.PairLists.{entry}
 use Rattle.fixed_complex.specs.Pairs.{IsOfSize, IsWithin, minus, times}
-use Rattle.fixed_complex.specs.Samples.{AreSamples, sample_at}
-use Rattle.echo_taps.specs.Echoes.{echo_of, gathered, held_sample, pairs_at}
+use Rattle.fixed_complex.specs.Samples.{AreSamples, pair_at, sample_at}
+use Rattle.echo_taps.specs.Echoes.{echo_of, gathered, held_sample}
 use Rattle.echo_taps.specs.Taps.{IsEcho}
 use Rattle.echo_taps.specs.Texts.{SaysPairs}
 
@@ -49,7 +49,7 @@ EchoIsLong = (taps : List Cx) (samples : List Sample) → length (echo_of taps s
 abbrev pub EchoAtPlace : Type 0
 EchoAtPlace =
     (taps : List Cx) (samples : List Sample) (place : ℕ) → place < length samples + 7
-    → sample_at (echo_of taps samples) place ≡ held_sample (gathered taps (pairs_at samples) place)
+    → sample_at (echo_of taps samples) place ≡ held_sample (gathered taps (pair_at samples) place)
 
 -- whatever samples are, their echo has 16 bits
 abbrev pub EchoIsSamples : Type 0

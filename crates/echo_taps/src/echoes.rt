@@ -1,7 +1,8 @@
 //! The echo of samples.
 ghost use Rattle.std.specs.Prelude.{◌≡◌, ◌+◌, ◌-◌, ◌*◌, ◌^◌, ◌≤◌, ℕ, [], ◌∷◌, ◌++◌, length, unsigned_abs, IfOk, OnOk};
 ghost use Rattle.echo_taps.specs.Blocks.{echo_below};
-ghost use Rattle.echo_taps.specs.Echoes.{earlier, echo_of, gathered, held_sample, pairs_at};
+ghost use Rattle.fixed_complex.specs.Samples.{pair_at};
+ghost use Rattle.echo_taps.specs.Echoes.{earlier, echo_of, gathered, held_sample};
 ghost use Rattle.fixed_complex.specs.PairLists.{PairsWithin};
 ghost use Rattle.fixed_complex.specs.Pairs.{IsWithin};
 ghost use Rattle.fixed_complex.specs.Rounding.{half_up};
@@ -110,19 +111,19 @@ fn held_of(sum: Cx) -> Sample
 // What comes together at a place.
 fn sum_at(pairs: &[Cx; 8], samples: &[Sample], place: usize) -> Cx
     requires { PairsWithin 1024 pairs.now }
-    ensures sum { result ≡ gathered pairs.now (pairs_at samples.now) place }
+    ensures sum { result ≡ gathered pairs.now (pair_at samples.now) place }
     ensures within { IsWithin (2 ^ 34) result }
 {
     let mut sum = Cx { re: 0, im: 0 };
     for late in 0..8 {
-        sum = add(sum, mul(pairs[late], pair_at(samples, place, late)));
+        sum = add(sum, mul(pairs[late], earlier_pair(samples, place, late)));
     }
     sum
 }
 
 // The sample so many places before a place, as a pair.
-fn pair_at(samples: &[Sample], place: usize, late: usize) -> Cx
-    ensures pair { result ≡ earlier (pairs_at samples.now) place late }
+fn earlier_pair(samples: &[Sample], place: usize, late: usize) -> Cx
+    ensures pair { result ≡ earlier (pair_at samples.now) place late }
     ensures within { IsWithin (2 ^ 15) result }
 {
     match place.checked_sub(late).and_then(|at| samples.get(at)) {

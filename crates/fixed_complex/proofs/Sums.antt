@@ -1,9 +1,10 @@
 -- Sums of pairs over places, and identities of sums and products.
 use Rattle.std.proofs.Common.{◌≡◌, ℕ, zero, suc, ◌+◌, ◌*◌, refl, ap, sym, ◌∙◌, arith, ◌<◌}
 use Rattle.std.specs.Prelude.{ℤ, pos, ◌+ℤ◌, ◌-ℤ◌, ◌*ℤ◌}
+use Rattle.std.proofs.lemmas.Int.{ints}
 use Rattle.fixed_complex.specs.declared.Cx.{Cx}
 use Rattle.fixed_complex.specs.Laws.{sum_below}
-use Rattle.fixed_complex.specs.Pairs.{IsOfSize, zero_pair, plus, minus, multiple, times}
+use Rattle.fixed_complex.specs.Pairs.{IsOfSize, IsWithin, zero_pair, plus, minus, multiple, times}
 use Rattle.integer_laws.proofs.Ring.{ring, number, ◌⊕◌, ◌⊖◌, ◌⊗◌, ◌≗◌}
 use Rattle.integer_laws.proofs.Order.{pos-le}
 use Rattle.fixed_complex.proofs.PairSizes.{wider, size-plus}
@@ -21,6 +22,18 @@ sum_of_differences a b c d = same_parts _ _ (law a.re b.re c.re d.re) (law a.im 
   where
     law : (a b c d : ℤ) → (a -ℤ b) +ℤ (c -ℤ d) ≡ (a +ℤ c) -ℤ (b +ℤ d)
     law = ring 4 (λ a b c d. (a ⊖ b) ⊕ (c ⊖ d) ≗ (a ⊕ c) ⊖ (b ⊕ d)) refl
+
+pub plus_zero : (a : Cx) → plus a zero_pair ≡ a
+plus_zero a = same_parts _ _ (law a.re) (law a.im)
+  where
+    law : (a : ℤ) → a +ℤ pos 0 ≡ a
+    law = ring 1 (λ a. a ⊕ number (pos 0) ≗ a) refl
+
+pub zero_plus : (a : Cx) → plus zero_pair a ≡ a
+zero_plus a = same_parts _ _ (law a.re) (law a.im)
+  where
+    law : (a : ℤ) → pos 0 +ℤ a ≡ a
+    law = ring 1 (λ a. number (pos 0) ⊕ a ≗ a) refl
 
 times_plus : (w a b : Cx) → times w (plus a b) ≡ plus (times w a) (times w b)
 unfolding times
@@ -55,6 +68,23 @@ multiple_zero c = same_parts _ _ (law c) (law c)
     law = ring 1 (λ c. c ⊗ number (pos 0) ≗ number (pos 0)) refl
 
 -- ---- sums over places
+-- a sum that grows place by place, and a bound on its components
+pub sum-none : (f : ℕ → Cx) → zero_pair ≡ sum_below 0 f
+unfolding sum_below
+sum-none f = refl
+
+pub sum-more : (f : ℕ → Cx) (n : ℕ) (before after added : Cx) → before ≡ sum_below n f → added ≡ f n → after ≡ plus before added → after ≡ sum_below (n + 1) f
+unfolding sum_below
+sum-more f n before after added is new sum =
+    let next : n + 1 ≡ suc n = omega arith in
+    sum ∙ ap (λ a. plus before a) new ∙ ap (λ b. plus b (f n)) is ∙ ap (λ m. sum_below m f) (sym next)
+
+pub within-more : (bound n : ℕ) (a b : Cx) → IsWithin (n * bound) a → IsWithin bound b → IsWithin ((n + 1) * bound) (plus a b)
+within-more bound n a b p q = record {
+  re = omega (arith, ints, p.re, q.re);
+  im = omega (arith, ints, p.im, q.im);
+}
+
 pub same_sums : (f g : ℕ → Cx) → ((m : ℕ) → f m ≡ g m) → (n : ℕ) → sum_below n f ≡ sum_below n g
 same_sums f g h n = ap (sum_below n) (λ i m. h m i)
 
@@ -87,10 +117,11 @@ unfolding sum_below
 minus_sums zero f g = refl
 minus_sums (suc n) f g = sym (sum_of_differences (sum_below n f) (sum_below n g) (f n) (g n)) ∙ ap (λ s. plus s (minus (f n) (g n))) (minus_sums n f g)
 
-pub size-sum : (n b : ℕ) (f : ℕ → Cx) → ((m : ℕ) → IsOfSize b (f m)) → IsOfSize (n * b) (sum_below n f)
+pub size-sum : (n b : ℕ) (f : ℕ → Cx) → ((m : ℕ) → m < n → IsOfSize b (f m)) → IsOfSize (n * b) (sum_below n f)
 unfolding sum_below
 size-sum zero b f h = record { size = pos-le 0 (zero * b * (zero * b)) (omega arith) }
-size-sum (suc n) b f h = wider (n * b + b) (suc n * b) _ (omega arith) (size-plus (n * b) b (sum_below n f) (f n) (size-sum n b f h) (h n))
+size-sum (suc n) b f h =
+    wider (n * b + b) (suc n * b) _ (omega arith) (size-plus (n * b) b (sum_below n f) (f n) (size-sum n b f (λ m lt. h m (omega arith))) (h n (omega arith)))
 
 pub plus_sums : (n : ℕ) (f g : ℕ → Cx) → plus (sum_below n f) (sum_below n g) ≡ sum_below n (λ m. plus (f m) (g m))
 unfolding sum_below
@@ -107,12 +138,6 @@ plus_sums (suc n) f g = regrouped (sum_below n f) (f n) (sum_below n g) (g n) �
 pub sum_halves : (n k : ℕ) (f : ℕ → Cx) → sum_below (n + k) f ≡ plus (sum_below n f) (sum_below k (λ m. f (m + n)))
 unfolding sum_below
 sum_halves n zero f = let e : n + 0 ≡ n = omega arith in rw e (sym (plus_zero (sum_below n f)))
-  where
-    law : (a : ℤ) → a +ℤ pos 0 ≡ a
-    law = ring 1 (λ a. a ⊕ number (pos 0) ≗ a) refl
-
-    plus_zero : (a : Cx) → plus a zero_pair ≡ a
-    plus_zero a = same_parts _ _ (law a.re) (law a.im)
 sum_halves n (suc k) f =
     let e : n + suc k ≡ suc (n + k) = omega arith in
     let last : n + k ≡ k + n = omega arith in

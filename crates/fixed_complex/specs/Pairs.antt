@@ -1,5 +1,5 @@
 -- Whole-number pairs, each read as the complex number re + im * sqrt(-1) (own).
-use Rattle.std.specs.Prelude.{ℕ, ◌*◌, ◌≤◌, ℤ, pos, ◌+ℤ◌, ◌-ℤ◌, ◌*ℤ◌, neg_ℤ, ◌≤ℤ◌, unsigned_abs}
+use Rattle.std.specs.Prelude.{ℕ, ◌+◌, ◌*◌, ◌≤◌, ℤ, pos, ◌+ℤ◌, ◌-ℤ◌, ◌*ℤ◌, neg_ℤ, ◌≤ℤ◌, unsigned_abs}
 use Rattle.fixed_complex.specs.declared.Cx.{Cx}
 use Rattle.fixed_complex.specs.Rounding.{half_up}
 
@@ -31,6 +31,10 @@ scaled_product w z = record { re = half_up 20 (times w z).re; im = half_up 20 (t
 abbrev pub rounded_pair : ℕ → Cx → Cx
 rounded_pair bits a = record { re = half_up bits a.re; im = half_up bits a.im }
 
+-- the square of a pair's size
+abbrev pub squared_size : Cx → ℕ
+squared_size a = unsigned_abs a.re * unsigned_abs a.re + unsigned_abs a.im * unsigned_abs a.im
+
 -- each component is at most so large in size
 pub record IsWithin (bound : ℕ) (a : Cx) : Type 0 where
   pub re : unsigned_abs a.re ≤ bound
@@ -39,3 +43,7 @@ pub record IsWithin (bound : ℕ) (a : Cx) : Type 0 where
 -- the pair is at most so large in size: re^2 + im^2 is at most the bound's square
 pub record IsOfSize (bound : ℕ) (a : Cx) : Type 0 where
   pub size : (a.re *ℤ a.re +ℤ a.im *ℤ a.im) ≤ℤ pos (bound * bound)
+
+-- the pair is at least so large in size: re^2 + im^2 is at least the bound's square
+pub record IsAtLeastOfSize (bound : ℕ) (a : Cx) : Type 0 where
+  pub size : pos (bound * bound) ≤ℤ (a.re *ℤ a.re +ℤ a.im *ℤ a.im)

@@ -12,6 +12,10 @@ sample_at samples n = slice_index_or samples n (record { i = pos 0; q = pos 0 })
 abbrev pub pair_of : Sample → Cx
 pair_of sample = record { re = sample.i; im = sample.q }
 
+-- the sample at a place of a list, as a pair: (0, 0) past its end
+abbrev pub pair_at : List Sample → ℕ → Cx
+pair_at samples n = pair_of (sample_at samples n)
+
 -- the sample whose parts are those of a pair
 abbrev pub as_sample : Cx → Sample
 as_sample z = record { i = z.re; q = z.im }

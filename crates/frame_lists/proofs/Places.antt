@@ -1,29 +1,15 @@
 -- The sum of the waveforms of frames, place by place.
-use Rattle.std.proofs.Common.{◌≡◌, ℕ, ◌+◌, ◌-◌, ◌<◌, ◌≤◌, true, false, List, [], ◌∷◌, length, refl, ap, ◌∙◌, arith, ℤ, pos, ◌+ℤ◌, if◌then◌else◌}
+use Rattle.std.proofs.Common.{◌≡◌, ℕ, ◌+◌, ◌-◌, ◌<◌, ◌≤◌, true, false, List, [], ◌∷◌, length, refl, ap, ◌∙◌, arith, if◌then◌else◌}
 use Rattle.std.proofs.lemmas.Bool.{le-ltb, lt-ltb}
 use Rattle.std.proofs.lemmas.List.{get_or_past}
-use Rattle.integer_laws.proofs.Ring.{ring, number, ◌⊕◌, ◌≗◌}
 use Rattle.fixed_complex.specs.declared.Cx.{Cx}
 use Rattle.fixed_complex.specs.PairLists.{entry}
 use Rattle.fixed_complex.specs.Pairs.{plus, zero_pair}
-use Rattle.fixed_complex.proofs.Pairs.{same_parts}
+use Rattle.fixed_complex.proofs.Sums.{plus_zero, zero_plus}
 use Rattle.plain_waves.specs.Bodies.{plain_body}
 use Rattle.frame_fields.proofs.FramePlaces.{length-frame}
 use Rattle.frame_lists.specs.Laws.{OneWaveform, OthersBehind, SilentBefore, SilentUpToStart}
 use Rattle.frame_lists.specs.Near.{SentFrame, bound_at, end_of_sent, has_place, plain_of, samples_of, shifted, waveform_at}
-
--- ---- sums with silence
-plus_zero : (a : Cx) → plus a zero_pair ≡ a
-plus_zero a = same_parts _ _ (law a.re) (law a.im)
-  where
-    law : (x : ℤ) → x +ℤ pos 0 ≡ x
-    law = ring 1 (λ x. x ⊕ number (pos 0) ≗ x) refl
-
-zero_plus : (a : Cx) → plus zero_pair a ≡ a
-zero_plus a = same_parts _ _ (law a.re) (law a.im)
-  where
-    law : (x : ℤ) → pos 0 +ℤ x ≡ x
-    law = ring 1 (λ x. number (pos 0) ⊕ x ≗ x) refl
 
 -- ---- one waveform
 pub length-plain_of : (frame : SentFrame) → length (plain_of frame) ≡ samples_of frame

@@ -9,7 +9,7 @@ use Rattle.rate_table.specs.declared.Rate.{Rate}
 use Rattle.rate_table.specs.Symbols.{symbol_count}
 use Rattle.rate_table.specs.Table.{row_of}
 use Rattle.plain_waves.specs.Nearness.{IsNearPlain}
-use Rattle.frame_fields.specs.Frames.{plain_frame}
+use Rattle.frame_fields.specs.Frames.{plain_frame, sent_frame}
 
 -- a frame that is sent, from a place on
 pub record SentFrame : Type 0 where
@@ -21,6 +21,10 @@ pub record SentFrame : Type 0 where
 -- its waveform
 abbrev pub plain_of : SentFrame → List Cx
 plain_of frame = plain_frame frame.rate frame.seed frame.psdu
+
+-- its samples, as they are sent
+abbrev pub sent_of : SentFrame → List Sample
+sent_of frame = sent_frame frame.rate frame.seed frame.psdu
 
 -- how many samples it has: 400 + 80 * N_SYM
 abbrev pub samples_of : SentFrame → ℕ

@@ -12,7 +12,7 @@ use Rattle.echo_channels.specs.Channels.{IsNearEchoedBody}
 use Rattle.symbols_in_echoes.specs.Laws.{echo_bound_of}
 use Rattle.symbols_in_echoes.proofs.Bounds.{echo_bound_least, echo_bound_most}
 use Rattle.symbols_in_echoes.proofs.Symbols.{decided_in_echoes}
-use Rattle.frame_lists.specs.Near.{SentFrame}
+use Rattle.frame_lists.specs.Near.{SentFrame, sent_of}
 use Rattle.frame_reader.specs.Decisions.{body_of, decisions_of, estimate_from, plain_decisions}
 use Rattle.exact_decisions.specs.Laws.{sent_header}
 use Rattle.exact_decisions.specs.Sent.{AreAsSent, code_of_symbol, rate_of_symbol}
@@ -21,7 +21,7 @@ use Rattle.exact_decisions.proofs.Heard.{sent_is_heard}
 use Rattle.frame_starts.specs.Starts.{IsFrameAt, heard}
 use Rattle.frames_in_noise.specs.Laws.{heard_of}
 use Rattle.frames_in_echoes.specs.Laws.{EchoIsRead, EchoIsThere, EchoedFrameIsRead, EchoedFrameIsThere}
-use Rattle.frames_in_echoes.specs.Waves.{BeginsNearEchoed, sent_of}
+use Rattle.frames_in_echoes.specs.Waves.{BeginsNearEchoed}
 use Rattle.frames_in_echoes.proofs.Parts.{near_first, near_second, near_symbol}
 use Rattle.frames_in_echoes.proofs.Sent.{echo_is_near}
 

@@ -1,29 +1,28 @@
 -- Bodies of an echoed frame are near echoed bodies.
-use Rattle.std.proofs.Common.{◌≡◌, ℕ, ◌+◌, ◌-◌, ◌*◌, ◌/◌, ◌%◌, ◌^◌, ◌<◌, ◌≤◌, List, length, get_or, drop, ap, subst, sym, ◌∙◌, arith, inl, inr, ℤ, pos, unsigned_abs, w16, FitsSigned}
-use Rattle.std.proofs.lemmas.Bool.{cases_lt, le-ltb}
-use Rattle.std.proofs.lemmas.Int.{ints}
-use Rattle.std.proofs.lemmas.List.{get_or-append-add, get_or_past, length-drop, length-take-le}
-use Rattle.std.proofs.lemmas.List.Elements.{All-drop, All-get_or, All-take}
+use Rattle.std.proofs.Common.{◌≡◌, ℕ, ◌+◌, ◌-◌, ◌*◌, ◌/◌, ◌%◌, ◌^◌, ◌<◌, ◌≤◌, List, length, get_or, drop, ap, subst, sym, ◌∙◌, arith, pos}
+use Rattle.std.proofs.lemmas.Bool.{le-ltb}
+use Rattle.std.proofs.lemmas.List.{get_or-append-add, length-drop, length-take-le}
+use Rattle.std.proofs.lemmas.List.Elements.{All-drop, All-take}
 use Rattle.std.proofs.lemmas.List.FromFn.{get_or-map-range_with_len, length-map-range_with_len}
 use Rattle.fixed_complex.specs.declared.Cx.{Cx}
 use Rattle.fixed_complex.specs.declared.Sample.{Sample}
 use Rattle.fixed_complex.specs.PairLists.{entry}
 use Rattle.fixed_complex.specs.Pairs.{IsWithin, minus, multiple, times, zero_pair}
-use Rattle.fixed_complex.specs.Samples.{AreSamples, IsSample, sample_at}
+use Rattle.fixed_complex.specs.Samples.{AreSamples, IsSample, pair_at}
 use Rattle.fixed_complex.specs.Turns.{turn_at}
 use Rattle.fixed_complex.proofs.Sums.{same_sums, sum-local}
 use Rattle.fixed_complex.proofs.Turning.{whole_turns}
+use Rattle.fixed_complex.proofs.Samples.{within_16_bits}
 use Rattle.rate_table.specs.Symbols.{symbol_count}
 use Rattle.rate_table.specs.Table.{row_of}
 use Rattle.carrier_bins.specs.Bins.{by_bin}
 use Rattle.plain_waves.specs.Bodies.{plain_body}
 use Rattle.training_fields.specs.Training.{long_carrier, long_times, preamble_of, short_carrier, short_times}
 use Rattle.frame_search.specs.Match.{part}
-use Rattle.carrier_equaliser.specs.Received.{pair_at, received}
+use Rattle.carrier_equaliser.specs.Received.{received}
 use Rattle.carrier_equaliser.proofs.ComingBack.{received_are_near}
 use Rattle.decided_axis.specs.Bodies.{FitABody}
-use Rattle.decided_axis.proofs.Fitting.{long_fit, symbol_fit}
-use Rattle.symbol_builder.specs.Carriers.{symbol_bin}
+use Rattle.decided_axis.proofs.Fitting.{long_fit}
 use Rattle.echo_taps.specs.Echoes.{gathered}
 use Rattle.echo_taps.specs.Taps.{IsEcho}
 use Rattle.echo_channels.specs.Channels.{IsNearEchoedBody, echoed_body}
@@ -33,7 +32,7 @@ use Rattle.frame_fields.specs.Frames.{frame_bin}
 use Rattle.frame_fields.proofs.FramePlaces.{in_preamble, in_symbol}
 use Rattle.frame_lists.specs.Near.{SentFrame, plain_of, samples_of}
 use Rattle.frame_reader.specs.Decisions.{body_of}
-use Rattle.exact_decisions.proofs.Codes.{code_bits, code_long, same_points}
+use Rattle.frames_in_noise.proofs.Codes.{frame_fit}
 use Rattle.frames_in_noise.proofs.Parts.{part_at}
 use Rattle.frames_in_echoes.specs.Laws.{LongBodiesComeBack, SymbolsComeBack}
 use Rattle.frames_in_echoes.specs.Waves.{BeginsNearEchoed}
@@ -100,25 +99,9 @@ module _ (frame : SentFrame) where
         let place : 336 + 80 * n + t - late ≡ 320 + 80 * n + (16 + t - late) = omega arith in
         ap (entry (plain_of frame)) place ∙ symbol_at n (16 + t - late) sent (omega arith) ∙ same_place (frame_bin frame.rate frame.seed frame.psdu n) _ _ (omega arith))
 
--- ---- what each symbol carries fits a body
-pub frame_fit : (frame : SentFrame) (n : ℕ) → n ≤ symbol_count (row_of frame.rate).field_bits (length frame.psdu) → FitABody (frame_bin frame.rate frame.seed frame.psdu n)
-frame_fit frame n sent =
-    subst (λ points. FitABody (symbol_bin points n)) (sym (same_points frame.rate frame.seed frame.psdu n))
-    (symbol_fit _ _ n (code_bits frame.rate frame.seed frame.psdu n) (code_long frame.rate frame.seed frame.psdu n sent))
-
 -- ---- received carriers
-fits_small : (z : ℤ) → FitsSigned w16 z → unsigned_abs z ≤ 2 ^ 15
-fits_small z fits = omega (arith, ints)
-
-sample_small : (samples : List Sample) (n : ℕ) → AreSamples samples → IsWithin (2 ^ 15) (pair_at samples n)
-sample_small samples n are =
-    elim (cases_lt n (length samples)) [
-      | inl here ↦ let is : IsSample (sample_at samples n) = All-get_or IsSample samples n _ here are in record { re = fits_small _ is.i; im = fits_small _ is.q }
-      | inr past ↦ rw (get_or_past samples n (record { i = pos 0; q = pos 0 }) past) (record { re = omega arith; im = omega arith })
-    ]
-
 part_small : (samples : List Sample) (from n : ℕ) → AreSamples samples → IsWithin (2 ^ 15) (pair_at (part samples from 64) n)
-part_small samples from n are = sample_small (part samples from 64) n (All-take IsSample 64 (drop from samples) (All-drop IsSample from samples are))
+part_small samples from n are = within_16_bits (part samples from 64) (All-take IsSample 64 (drop from samples) (All-drop IsSample from samples are)) n
 
 come_back : (bound : ℕ) (taps : List Cx) (carried : ℕ → Cx) (samples : List Sample) (from bin : ℕ) → IsEcho taps → AreSamples samples → FitABody carried → IsNearEchoedBody bound taps carried (part samples from 64) → bin < 64 → IsNearSent bound taps bin (carried bin) (entry (received (part samples from 64)) bin)
 come_back bound taps carried samples from bin echo are fit near lt =

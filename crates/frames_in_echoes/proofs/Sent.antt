@@ -1,7 +1,7 @@
 -- The echo of a frame, alone for seven places, is near the echoed frame, and not held.
 use Rattle.std.proofs.Common.{◌≡◌, ℕ, ◌+◌, ◌-◌, ◌*◌, ◌^◌, ◌<◌, ◌≤◌, List, length, drop, length-drop, nat_lt, if◌then◌else◌, refl, ap, subst, ◌∙◌, arith, inl, inr, ℤ, pos, ◌+ℤ◌, ◌-ℤ◌, ◌*ℤ◌, unsigned_abs}
 use Rattle.std.proofs.lemmas.Bool.{cases_lt, le-ltb, lt-ltb}
-use Rattle.std.proofs.lemmas.Int.{clamps, ints}
+use Rattle.std.proofs.lemmas.Int.{ints}
 use Rattle.std.proofs.lemmas.List.{get_or-drop, get_or_past}
 use Rattle.integer_laws.proofs.FloorDivision.{rounded_within, rounding_within}
 use Rattle.integer_laws.proofs.Ring.{ring, ◌⊕◌, ◌⊖◌, ◌⊗◌, ◌≗◌}
@@ -11,30 +11,28 @@ use Rattle.fixed_complex.specs.Laws.{sum_below}
 use Rattle.fixed_complex.specs.PairLists.{entry}
 use Rattle.fixed_complex.specs.Pairs.{IsWithin, minus, multiple, rounded_pair, times, zero_pair}
 use Rattle.fixed_complex.specs.Rounding.{half_up}
-use Rattle.fixed_complex.specs.Samples.{as_sample, pair_of, sample_at}
+use Rattle.fixed_complex.specs.Samples.{as_sample, pair_at, pair_of, sample_at}
 use Rattle.fixed_complex.proofs.Pairs.{same_parts}
 use Rattle.fixed_complex.proofs.PairSizes.{within_wider}
 use Rattle.fixed_complex.proofs.Samples.{same_sample}
 use Rattle.fixed_complex.proofs.Sums.{minus_sums, multiple_sum, same_sums, sum-local}
 use Rattle.lane_kernels.specs.Kernels.{held}
+use Rattle.lane_kernels.proofs.Holding.{held-small}
 use Rattle.plain_waves.specs.Bodies.{sent_body}
 use Rattle.plain_waves.specs.Nearness.{IsNearPlain}
-use Rattle.echo_taps.specs.Echoes.{earlier, echo_of, gathered, held_sample, pairs_at}
+use Rattle.echo_taps.specs.Echoes.{earlier, echo_of, gathered, held_sample}
 use Rattle.echo_taps.specs.Taps.{IsEcho}
 use Rattle.echo_taps.proofs.Places.{echo_at, length-echo}
 use Rattle.echo_taps.proofs.TapSums.{echo_within}
 use Rattle.frame_fields.proofs.FramePlaces.{length-frame}
 use Rattle.frame_fields.proofs.NearFrames.{near_frame, small_frame}
-use Rattle.frame_lists.specs.Near.{SentFrame, plain_of, samples_of}
+use Rattle.frame_lists.specs.Near.{SentFrame, plain_of, samples_of, sent_of}
 use Rattle.frames_in_echoes.specs.Laws.{EchoIsNear, EchoIsNotHeld}
-use Rattle.frames_in_echoes.specs.Waves.{BeginsNearEchoed, echoed_wave, sent_of}
+use Rattle.frames_in_echoes.specs.Waves.{BeginsNearEchoed, echoed_wave}
 
 -- ---- what is small isn't held
-not_held : (v : ℤ) → unsigned_abs v ≤ 32573 → held v ≡ v
-not_held v small = omega (arith, ints, clamps)
-
 rounded_part : (v : ℤ) (bound : ℕ) → bound ≤ 1000 → unsigned_abs v ≤ 1280 * (25058 + bound) → held (half_up 10 v) ≡ half_up 10 v
-rounded_part v bound few small = not_held (half_up 10 v) (rounded_within v 512 32573 (omega arith) (omega arith))
+rounded_part v bound few small = held-small (half_up 10 v) (rounded_within v 512 32767 (omega arith) (omega arith))
 
 rounded_alone : (bound : ℕ) (z : Cx) → bound ≤ 1000 → IsWithin (1280 * (25058 + bound)) z → held_sample z ≡ as_sample (rounded_pair 10 z)
 rounded_alone bound z few small = same_sample _ _ (rounded_part z.re bound few small.re) (rounded_part z.im bound few small.im)
@@ -86,7 +84,7 @@ as_pairs bound sample w near = record { re = near.i; im = near.q }
 module _ (bound start : ℕ) (capture : List Sample) (frame : SentFrame) (alone : IsNearAlone bound start capture frame) (time : ℕ) (lt : time < samples_of frame) where
   -- what is earlier in the capture, and in the frame
   abbrev here : ℕ → Cx
-  here late = earlier (pairs_at capture) (start + time) late
+  here late = earlier (pair_at capture) (start + time) late
 
   abbrev plain_here : ℕ → Cx
   plain_here late = earlier (entry (plain_of frame)) time late
@@ -119,14 +117,14 @@ term_error h a b c = same_parts _ _ (re h.re h.im a.re a.im b.re b.im c) (im h.r
     im = ring 7 (λ h k a b d e c. c ⊗ (h ⊗ b ⊕ k ⊗ a) ⊖ (h ⊗ e ⊕ k ⊗ d) ≗ h ⊗ (c ⊗ b ⊖ e) ⊕ k ⊗ (c ⊗ a ⊖ d)) refl
 
 module _ (taps : List Cx) (bound start : ℕ) (capture : List Sample) (frame : SentFrame) (echo : IsEcho taps) (alone : IsNearAlone bound start capture frame) (time : ℕ) (lt : time < samples_of frame) where
-  gathered_within : IsWithin (1280 * (25058 + bound)) (gathered taps (pairs_at capture) (start + time))
+  gathered_within : IsWithin (1280 * (25058 + bound)) (gathered taps (pair_at capture) (start + time))
   unfolding gathered
   gathered_within = echo_within_few taps (25058 + bound) (here bound start capture frame alone time lt) echo (λ late few. (earlier_near bound start capture frame alone time lt late few).1)
 
-  near_gathered : IsWithin (1280 * (2097152 * bound)) (minus (multiple (pos 2097152) (gathered taps (pairs_at capture) (start + time))) (echoed_wave taps frame time))
+  near_gathered : IsWithin (1280 * (2097152 * bound)) (minus (multiple (pos 2097152) (gathered taps (pair_at capture) (start + time))) (echoed_wave taps frame time))
   unfolding gathered
   near_gathered =
-      let a = earlier (pairs_at capture) (start + time) in
+      let a = earlier (pair_at capture) (start + time) in
       let b = earlier (entry (plain_of frame)) time in
       let same : minus (multiple (pos 2097152) (sum_below 8 (λ late. times (entry taps late) (a late)))) (sum_below 8 (λ late. times (entry taps late) (b late))) ≡ sum_below 8 (λ late. times (entry taps late) (minus (multiple (pos 2097152) (a late)) (b late))) =
       ap (λ s. minus s (sum_below 8 (λ late. times (entry taps late) (b late)))) (multiple_sum (pos 2097152) 8 (λ late. times (entry taps late) (a late)))
@@ -141,9 +139,9 @@ part_near r z v bound louder enough rounding near = omega (arith, ints)
 pub echo_alone_is_near : (taps : List Cx) (bound louder start : ℕ) (capture : List Sample) (frame : SentFrame) → IsEcho taps → bound ≤ 1000 → 1280 * bound + 512 ≤ 1024 * louder → IsNearAlone bound start capture frame → BeginsNearEchoed louder taps (drop start (echo_of taps capture)) frame
 echo_alone_is_near taps bound louder start capture frame echo few enough alone = record { whole = omega (arith, alone.whole, length-echo taps capture, length-drop start (echo_of taps capture)); near = near }
   where
-    near : (time : ℕ) → time < samples_of frame → IsWithin (2 ^ 31 * louder) (minus (multiple (pos (2 ^ 31)) (pairs_at (drop start (echo_of taps capture)) time)) (echoed_wave taps frame time))
+    near : (time : ℕ) → time < samples_of frame → IsWithin (2 ^ 31 * louder) (minus (multiple (pos (2 ^ 31)) (pair_at (drop start (echo_of taps capture)) time)) (echoed_wave taps frame time))
     near time lt =
-        let z = gathered taps (pairs_at capture) (start + time) in
+        let z = gathered taps (pair_at capture) (start + time) in
         let v = echoed_wave taps frame time in
         let wave = near_gathered taps bound start capture frame echo alone time lt in
         let small = gathered_within taps bound start capture frame echo alone time lt in
@@ -170,7 +168,7 @@ pub echo_is_near : EchoIsNear
 echo_is_near taps frame echo = echo_alone_is_near taps 1 2 0 (sent_of frame) frame echo (omega arith) (omega arith) (sent_alone frame)
 
 -- nothing of its echo is held, the seven samples behind its end included
-sent_within : (frame : SentFrame) (n : ℕ) → IsWithin 25057 (pairs_at (sent_of frame) n)
+sent_within : (frame : SentFrame) (n : ℕ) → IsWithin 25057 (pair_at (sent_of frame) n)
 sent_within frame n =
     elim (cases_lt n (length (sent_of frame))) [
       | inl here ↦ let small = (small_frame frame.rate frame.seed frame.psdu).each n here in record { re = small.i; im = small.q }
@@ -187,6 +185,6 @@ earlier_within bound pairs place late within =
 pub echo_is_not_held : EchoIsNotHeld
 unfolding gathered
 echo_is_not_held taps frame place echo =
-    let z = gathered taps (pairs_at (sent_of frame)) place in
-    let small : IsWithin (1280 * 25057) z = echo_within taps 25057 (λ late. earlier (pairs_at (sent_of frame)) place late) echo (λ late. earlier_within 25057 (pairs_at (sent_of frame)) place late (sent_within frame)) in
+    let z = gathered taps (pair_at (sent_of frame)) place in
+    let small : IsWithin (1280 * 25057) z = echo_within taps 25057 (λ late. earlier (pair_at (sent_of frame)) place late) echo (λ late. earlier_within 25057 (pair_at (sent_of frame)) place late (sent_within frame)) in
     rounded_alone 0 z (omega arith) (within_wider (1280 * 25057) (1280 * (25058 + 0)) z (omega arith) small)

@@ -4,26 +4,26 @@ use Rattle.fixed_complex.specs.declared.Cx.{Cx}
 use Rattle.fixed_complex.specs.declared.Sample.{Sample}
 use Rattle.fixed_complex.specs.PairLists.{entry}
 use Rattle.fixed_complex.specs.Pairs.{rounded_pair}
-use Rattle.fixed_complex.specs.Samples.{AreSamples, as_sample}
+use Rattle.fixed_complex.specs.Samples.{AreSamples, as_sample, pair_at}
 use Rattle.rate_table.specs.Symbols.{symbol_count}
 use Rattle.rate_table.specs.Table.{row_of}
 use Rattle.carrier_bins.specs.Bins.{by_bin}
 use Rattle.training_fields.specs.Training.{long_carrier}
 use Rattle.frame_search.specs.Match.{part}
 use Rattle.carrier_equaliser.specs.Received.{received}
-use Rattle.echo_taps.specs.Echoes.{echo_of, gathered, held_sample, pairs_at}
+use Rattle.echo_taps.specs.Echoes.{echo_of, gathered, held_sample}
 use Rattle.echo_taps.specs.Taps.{IsEcho}
 use Rattle.echo_channels.specs.Laws.{IsNearSent}
 use Rattle.symbols_in_echoes.specs.Laws.{echo_bound_of}
 use Rattle.frame_fields.specs.Frames.{frame_bin}
 use Rattle.frame_lists.specs.Items.{Item, frames_from, samples_of_items}
-use Rattle.frame_lists.specs.Near.{AreNear, SentFrame}
+use Rattle.frame_lists.specs.Near.{AreNear, SentFrame, sent_of}
 use Rattle.frame_reader.specs.Decisions.{body_of, plain_decisions}
 use Rattle.frame_reader.specs.Frames.{HasField, SaysHeader}
 use Rattle.exact_decisions.specs.Laws.{sent_header}
 use Rattle.frame_starts.specs.Starts.{IsFrameAt}
 use Rattle.frames_in_noise.specs.Laws.{IsFrame, heard_of}
-use Rattle.frames_in_echoes.specs.Waves.{BeginsNearEchoed, sent_of}
+use Rattle.frames_in_echoes.specs.Waves.{BeginsNearEchoed}
 
 -- the carriers of both long bodies, which stand at 192 and 256, come back over their channels
 abbrev pub LongBodiesComeBack : Type 0
@@ -66,8 +66,8 @@ EchoIsNear =
 abbrev pub EchoIsNotHeld : Type 0
 EchoIsNotHeld =
     (taps : List Cx) (frame : SentFrame) (place : ℕ) → IsEcho taps
-    → held_sample (gathered taps (pairs_at (sent_of frame)) place)
-    ≡ as_sample (rounded_pair 10 (gathered taps (pairs_at (sent_of frame)) place))
+    → held_sample (gathered taps (pair_at (sent_of frame)) place)
+    ≡ as_sample (rounded_pair 10 (gathered taps (pair_at (sent_of frame)) place))
 
 -- and it is read as the frame that was sent
 abbrev pub EchoIsRead : Type 0

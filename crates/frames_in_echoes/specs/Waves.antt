@@ -4,8 +4,8 @@ use Rattle.fixed_complex.specs.declared.Cx.{Cx}
 use Rattle.fixed_complex.specs.declared.Sample.{Sample}
 use Rattle.fixed_complex.specs.PairLists.{entry}
 use Rattle.fixed_complex.specs.Pairs.{IsWithin, minus, multiple}
-use Rattle.echo_taps.specs.Echoes.{gathered, pairs_at}
-use Rattle.frame_fields.specs.Frames.{sent_frame}
+use Rattle.fixed_complex.specs.Samples.{pair_at}
+use Rattle.echo_taps.specs.Echoes.{gathered}
 use Rattle.frame_lists.specs.Near.{SentFrame, plain_of, samples_of}
 
 -- the echoed waveform of a frame, 2^31 times real samples, by the time since its start: what comes together of its plain
@@ -19,8 +19,4 @@ pub record BeginsNearEchoed (bound : ℕ) (taps : List Cx) (samples : List Sampl
   pub whole : samples_of frame ≤ length samples
   pub near : (time : ℕ) → time < samples_of frame
       → IsWithin (2 ^ 31 * bound)
-      (minus (multiple (pos (2 ^ 31)) (pairs_at samples time)) (echoed_wave taps frame time))
-
--- the sent samples of a frame
-abbrev pub sent_of : SentFrame → List Sample
-sent_of frame = sent_frame frame.rate frame.seed frame.psdu
+      (minus (multiple (pos (2 ^ 31)) (pair_at samples time)) (echoed_wave taps frame time))

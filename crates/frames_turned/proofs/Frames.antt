@@ -1,23 +1,19 @@
 -- Samples that begin within the phase bound of a frame with turns are read as it was sent.
-use Rattle.std.proofs.Common.{ℕ, zero, suc, ◌+◌, ◌*◌, ◌≤◌, List, length, length-drop, drop, refl, subst, sym, arith}
+use Rattle.std.proofs.Common.{ℕ, zero, suc, ◌+◌, ◌*◌, ◌≤◌, List, length-drop, drop, refl, subst, arith}
 use Rattle.fixed_complex.specs.declared.Cx.{Cx}
 use Rattle.fixed_complex.specs.declared.Sample.{Sample}
 use Rattle.fixed_complex.proofs.PairSizes.{wider}
 use Rattle.rate_table.specs.declared.Rate.{Rate}
-use Rattle.rate_table.specs.Symbols.{symbol_count}
 use Rattle.rate_table.specs.Table.{row_of}
 use Rattle.rate_table.proofs.ByRate.{by_rate}
 use Rattle.carrier_equaliser.specs.Received.{received}
 use Rattle.symbol_builder.specs.Carriers.{symbol_bin}
 use Rattle.frame_search.specs.Match.{part}
-use Rattle.decided_axis.specs.Bodies.{FitABody}
 use Rattle.decided_axis.specs.Channels.{AreCarried}
-use Rattle.decided_axis.proofs.Fitting.{symbol_fit}
 use Rattle.pilot_turns.specs.Turned.{phase_bound_of}
 use Rattle.symbols_turned.specs.Turns.{carrier_error}
 use Rattle.symbols_turned.proofs.Decided.{decided_turned}
 use Rattle.symbols_turned.proofs.Numbers.{bears}
-use Rattle.frame_fields.specs.Frames.{frame_bin}
 use Rattle.frame_lists.specs.Near.{SentFrame}
 use Rattle.frame_reader.specs.Decisions.{body_of, decisions_by, estimate_from}
 use Rattle.exact_decisions.specs.Laws.{sent_header}
@@ -26,16 +22,11 @@ use Rattle.exact_decisions.proofs.Codes.{code_bits, code_long, same_points}
 use Rattle.exact_decisions.proofs.Heard.{sent_is_heard}
 use Rattle.frame_starts.specs.Starts.{heard}
 use Rattle.frames_in_noise.specs.Laws.{heard_of}
+use Rattle.frames_in_noise.proofs.Codes.{frame_fit}
 use Rattle.frames_turned.specs.Deciding.{phase_decided}
 use Rattle.frames_turned.specs.Laws.{TurnedFrameIsRead, TurnedFrameIsThere, bound_of}
 use Rattle.frames_turned.specs.Waves.{AreTurns, BeginsNearTurned}
 use Rattle.frames_turned.proofs.Parts.{first_carried, second_carried, symbol_carried}
-
--- what each symbol carries fits a body
-pub frame_fit : (frame : SentFrame) (n : ℕ) → n ≤ symbol_count (row_of frame.rate).field_bits (length frame.psdu) → FitABody (frame_bin frame.rate frame.seed frame.psdu n)
-frame_fit frame n sent =
-    subst (λ points. FitABody (symbol_bin points n)) (sym (same_points frame.rate frame.seed frame.psdu n))
-    (symbol_fit _ _ n (code_bits frame.rate frame.seed frame.psdu n) (code_long frame.rate frame.seed frame.psdu n sent))
 
 -- SIGNAL withstands turns within the bound of each rate
 phase_most : (rate : Rate) → phase_bound_of (row_of rate).modulation ≤ 20

@@ -8,7 +8,7 @@ use Rattle.fixed_complex.specs.declared.Cx.{Cx}
 use Rattle.fixed_complex.specs.declared.Sample.{Sample}
 use Rattle.fixed_complex.specs.PairLists.{entry}
 use Rattle.fixed_complex.specs.Pairs.{IsOfSize, IsWithin, minus, multiple, times}
-use Rattle.fixed_complex.specs.Samples.{sample_at}
+use Rattle.fixed_complex.specs.Samples.{pair_at, sample_at}
 use Rattle.fixed_complex.proofs.PairLists.{entry-map}
 use Rattle.fixed_complex.proofs.PairSizes.{size-times, within-size}
 use Rattle.rate_table.specs.Symbols.{symbol_count}
@@ -20,7 +20,7 @@ use Rattle.plain_waves.proofs.Places.{plain_body-local}
 use Rattle.training_fields.specs.Training.{long_carrier}
 use Rattle.frame_search.specs.Match.{part}
 use Rattle.carrier_equaliser.specs.Nearness.{IsNearWave}
-use Rattle.carrier_equaliser.specs.Received.{pair_at, received}
+use Rattle.carrier_equaliser.specs.Received.{received}
 use Rattle.carrier_equaliser.proofs.ComingBack.{received_are_near}
 use Rattle.decided_axis.specs.Bodies.{FitABody}
 use Rattle.decided_axis.specs.Channels.{AreCarried}

@@ -1,7 +1,7 @@
 -- The turned samples of a frame are near its waveform with turns, and nothing of its symbols is held.
 use Rattle.std.proofs.Common.{◌≡◌, ℕ, ◌+◌, ◌-◌, ◌*◌, ◌/◌, ◌%◌, ◌^◌, ◌<◌, ◌≤◌, List, length, drop, cond, true, refl, ap, sym, ◌∙◌, arith, inl, inr, ℤ, pos, ◌+ℤ◌, ◌-ℤ◌, ◌*ℤ◌, unsigned_abs, int_le}
 use Rattle.std.proofs.lemmas.Bool.{agree_below_at, cases_lt, le-ltb, lt-ltb}
-use Rattle.std.proofs.lemmas.Int.{clamps, ints}
+use Rattle.std.proofs.lemmas.Int.{ints}
 use Rattle.std.proofs.lemmas.List.{get_or-drop, length-drop, length-take}
 use Rattle.std.proofs.lemmas.List.FromFn.{length-map-range_with_len}
 use Rattle.integer_laws.specs.Size.{sum_of_squares}
@@ -11,7 +11,7 @@ use Rattle.fixed_complex.specs.declared.Cx.{Cx}
 use Rattle.fixed_complex.specs.declared.Sample.{Sample}
 use Rattle.fixed_complex.specs.PairLists.{entry}
 use Rattle.fixed_complex.specs.Pairs.{IsOfSize, IsWithin, minus, multiple, plus, scaled_product, times}
-use Rattle.fixed_complex.specs.Samples.{sample_at}
+use Rattle.fixed_complex.specs.Samples.{pair_at, sample_at}
 use Rattle.fixed_complex.specs.Turns.{turn_at}
 use Rattle.fixed_complex.proofs.ByTable.{at_most}
 use Rattle.fixed_complex.proofs.Pairs.{same_parts}
@@ -23,21 +23,22 @@ use Rattle.fixed_complex.proofs.PairSizes.{size-plus, size-times, size-within, w
 use Rattle.fixed_complex.proofs.Samples.{same_sample, sample-map}
 use Rattle.fixed_complex.proofs.TurnLaws.{turn-size, turn-sum}
 use Rattle.lane_kernels.specs.Kernels.{held}
+use Rattle.lane_kernels.proofs.Holding.{held-small}
 use Rattle.plain_waves.specs.Bodies.{plain_body, sent_body}
 use Rattle.plain_waves.specs.Nearness.{AreNearPlain}
 use Rattle.rate_table.specs.Symbols.{symbol_count}
 use Rattle.rate_table.specs.Table.{row_of}
-use Rattle.carrier_equaliser.specs.Received.{pair_at}
 use Rattle.symbol_turns.specs.Turning.{turn_of_symbol, turned_at, turned_sample, turned_samples}
-use Rattle.frame_fields.specs.Frames.{frame_bin, sent_frame}
+use Rattle.frame_fields.specs.Frames.{frame_bin}
 use Rattle.frame_fields.proofs.FramePlaces.{in_symbol, length-frame}
 use Rattle.frame_fields.proofs.NearFrames.{near_frame}
-use Rattle.frame_lists.specs.Near.{SentFrame, plain_of, samples_of}
+use Rattle.frame_lists.specs.Near.{SentFrame, plain_of, samples_of, sent_of}
+use Rattle.frames_in_noise.proofs.Codes.{frame_fit}
 use Rattle.frames_in_noise.proofs.Parts.{part_at}
 use Rattle.symbols_turned.specs.Turns.{IsTurn, unturned}
 use Rattle.frames_turned.specs.Laws.{HoldsFrame, TurnedIsNear, TurnedIsNotHeld, TurnedIsRead, TurnedIsThere}
 use Rattle.frames_turned.specs.Waves.{BeginsNearTurned, turned_wave}
-use Rattle.frames_turned.proofs.Frames.{frame_fit, phase_least, turned_frame_is_read, turned_frame_is_there}
+use Rattle.frames_turned.proofs.Frames.{phase_least, turned_frame_is_read, turned_frame_is_there}
 use Rattle.frames_turned.proofs.Parts.{body_of_size, turn_before, turn_behind}
 
 -- ---- the turns of the table
@@ -51,9 +52,6 @@ table_turn m =
     })
 
 -- ---- the sent samples of a frame
-abbrev sent_of : SentFrame → List Sample
-sent_of frame = sent_frame frame.rate frame.seed frame.psdu
-
 long_sent : (frame : SentFrame) → length (sent_of frame) ≡ samples_of frame
 long_sent frame = length-frame sent_body frame.rate frame.seed frame.psdu
 
@@ -89,11 +87,8 @@ sent_size frame time behind lt =
     let whole : IsOfSize (2097152 + 2097152 + 50112 * 1048577) (multiple (pos 2097152) r) = rw (back r v) at both in
     record { size = size_of_unscaled 2097152 r.re r.im 25059 (omega arith) (wider (2097152 + 2097152 + 50112 * 1048577) (2097152 * 25059) (multiple (pos 2097152) r) (omega arith) whole).size }
 
-held_is : (z : ℤ) → unsigned_abs z ≤ 25060 → held z ≡ z
-held_is z small = omega (arith, ints, clamps)
-
-rounded_small : (z : ℤ) → unsigned_abs z ≤ 1048577 * 25059 → unsigned_abs (half_up 20 z) ≤ 25060
-rounded_small z small = rounded_within z 524288 25060 (omega arith) (omega arith)
+rounded_small : (z : ℤ) → unsigned_abs z ≤ 1048577 * 25059 → unsigned_abs (half_up 20 z) ≤ 32767
+rounded_small z small = rounded_within z 524288 32767 (omega arith) (omega arith)
 
 pub not_held : TurnedIsNotHeld
 unfolding scaled_product
@@ -101,7 +96,7 @@ not_held step time frame behind lt =
     let turn = turn_of_symbol step ((time - 320) / 80) in
     let r = pair_at (sent_of frame) time in
     let product = within-size (1048577 * 25059) (times turn r) (size-times 1048577 25059 turn r (turn-size _) (sent_size frame time behind lt)) in
-    same_sample _ _ (held_is _ (rounded_small (times turn r).re product.re)) (held_is _ (rounded_small (times turn r).im product.im))
+    same_sample _ _ (held-small _ (rounded_small (times turn r).re product.re)) (held-small _ (rounded_small (times turn r).im product.im))
 
 -- ---- how near it is
 before_near : (r v u : ℤ) → unsigned_abs (pos 2097152 *ℤ r -ℤ v) ≤ 2097152 → unsigned_abs (pos 2199023255552 *ℤ r -ℤ (pos 1048576 *ℤ v -ℤ pos 0 *ℤ u)) ≤ 2199023255552 * 2

@@ -6,7 +6,7 @@ use Rattle.fixed_complex.specs.PairLists.{entry}
 use Rattle.fixed_complex.specs.Pairs.{IsWithin, minus, multiple, times}
 use Rattle.rate_table.specs.Symbols.{symbol_count}
 use Rattle.rate_table.specs.Table.{row_of}
-use Rattle.carrier_equaliser.specs.Received.{pair_at}
+use Rattle.fixed_complex.specs.Samples.{pair_at}
 use Rattle.frame_lists.specs.Near.{SentFrame, plain_of, samples_of}
 use Rattle.symbols_turned.specs.Turns.{IsTurn, unturned}
 

@@ -1,6 +1,6 @@
 -- Sums held within 16 bits, lane by lane.
-use Rattle.std.proofs.Common.{◌≡◌, ℕ, zero, suc, List, [], ◌∷◌, map, length, replicate, Bool, true, false, cond, ℤ, pos, negsuc, ◌+ℤ◌, to_z, of_z, w32, refl, ap, ◌∙◌, arith}
-use Rattle.std.specs.Prelude.{FitsSigned, int_lt}
+use Rattle.std.proofs.Common.{◌≡◌, ◌≤◌, ℕ, zero, suc, List, [], ◌∷◌, map, length, replicate, Bool, true, false, cond, ℤ, pos, negsuc, ◌+ℤ◌, to_z, of_z, w32, refl, ap, ◌∙◌, arith}
+use Rattle.std.specs.Prelude.{FitsSigned, int_lt, unsigned_abs}
 use Rattle.std.specs.Int.{int_min}
 use Rattle.std.specs.Simd.Lanes.{zip2, Each1, Each2, sel_l, top}
 use Rattle.std.proofs.lemmas.Int.{ints, clamps, to_z-of_z}
@@ -60,6 +60,10 @@ held_lane-is s v is =
 
 pub held-fits : (v : ℤ) → FitsSigned w16 (held v)
 held-fits v = omega (arith, ints, clamps)
+
+-- what is small is not held
+pub held-small : (v : ℤ) → unsigned_abs v ≤ 32767 → held v ≡ v
+held-small v small = omega (arith, ints, clamps)
 
 -- the bits of a sum
 abbrev sum_lane : ℤ → ℤ → ℕ

@@ -10,15 +10,14 @@ use borrow.Table.Row.{s_int}
 use mir.Syntax.{w16, bit_xor as xor_lanes}
 use Rattle.integer_laws.proofs.Products.{*ℤ-neg_ℤ, *ℤ--ℤ}
 use Rattle.fixed_complex.specs.declared.Sample.{Sample}
-use Rattle.fixed_complex.specs.declared.Cx.{Cx}
 use Rattle.fixed_complex.specs.Numbers.{NumbersWithin, number_at}
 use Rattle.fixed_complex.specs.Pairs.{IsWithin, conjugate, times}
 use Rattle.fixed_complex.specs.Samples.{pair_of}
-use Rattle.fixed_complex.proofs.PairSizes.{within-conjugate}
+use Rattle.fixed_complex.proofs.PairSizes.{within-conjugate, within-times}
 use Rattle.lane_kernels.specs.Kernels.{power_of, product_of}
 use Rattle.lane_kernels.specs.Lanes.{AreOf16Bits, AreProducts, AreSquares, IsProduct, IsSquare, components_of, eight, four, turned_of}
 use Rattle.lane_kernels.proofs.Bounds.{product-bounds, size-le, square-bounds}
-use Rattle.lane_kernels.proofs.LaneSums.{eight_of, power-le, product-le}
+use Rattle.lane_kernels.proofs.LaneSums.{eight_of, power-le}
 use Rattle.lane_kernels.proofs.Totals.{eight-each}
 use Rattle.lane_kernels.proofs.FourLanes.{first_four, four-each, four-same}
 
@@ -29,14 +28,6 @@ real_part a b = omega (arith, ints, *ℤ-neg_ℤ a.q b.q)
 imaginary_part : (a b : Sample) → a.i *ℤ (negsuc 0 -ℤ b.q) +ℤ a.q *ℤ b.i +ℤ a.i ≡ (product_of a b).im
 unfolding times
 imaginary_part a b = omega (arith, ints, *ℤ-neg_ℤ a.i b.q, *ℤ--ℤ a.i (negsuc 0) b.q)
-
--- how large they are
-pub times-within : (a b : Cx) → IsWithin (2 ^ 15) a → IsWithin (2 ^ 15) b → IsWithin (2 ^ 31) (times a b)
-unfolding times
-times-within a b h k = record {
-  re = omega (arith, ints, product-le a.re b.re h.re k.re, product-le a.im b.im h.im k.im);
-  im = omega (arith, ints, product-le a.re b.im h.re k.im, product-le a.im b.re h.im k.re);
-}
 
 -- a sample's components have 16 bits
 pub record IsOf16Bits (a : Sample) : Type 0 where
@@ -81,7 +72,7 @@ products_within f g h k n below =
     let b = k n below in
     let first : IsWithin (2 ^ 15) (pair_of (f n)) = record { re = size-le (f n).i a.i; im = size-le (f n).q a.q } in
     let second : IsWithin (2 ^ 15) (pair_of (g n)) = record { re = size-le (g n).i b.i; im = size-le (g n).q b.q } in
-    times-within (pair_of (f n)) (conjugate (pair_of (g n))) first (within-conjugate (2 ^ 15) (pair_of (g n)) second)
+    within-times (2 ^ 15) (2 ^ 15) (pair_of (f n)) (conjugate (pair_of (g n))) first (within-conjugate (2 ^ 15) (pair_of (g n)) second)
 
 pub biased_within : (r : List ℤ) (f : ℕ → ℤ) (bias : ℕ) → bias ≤ 2147516414 → r ≡ four (λ n. f n +ℤ pos bias) → ((n : ℕ) → n < 4 → unsigned_abs (f n) ≤ 2 ^ 31) → NumbersWithin (2 ^ 33) r
 biased_within r f bias small is h =

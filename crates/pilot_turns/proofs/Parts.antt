@@ -4,11 +4,10 @@ use mir.Syntax.{w128}
 use Rattle.std.proofs.Math.ListN.{get_or-map}
 use Rattle.std.proofs.lemmas.Int.{ints, to_z-of_z, fits_signed_from_abs, fits_signed_mul}
 use Rattle.std.specs.Prelude.{slice_index_or, FitsSigned}
-use Rattle.integer_laws.proofs.Order.{unsigned_abs-product}
 use Rattle.integer_laws.proofs.Ring.{negated, number, ring, ◌⊕◌, ◌⊖◌, ◌⊗◌, ◌≗◌}
 use Rattle.fixed_complex.specs.declared.Cx.{Cx}
 use Rattle.fixed_complex.specs.PairLists.{entry}
-use Rattle.fixed_complex.specs.Pairs.{IsWithin, conjugate, multiple, times, zero_pair}
+use Rattle.fixed_complex.specs.Pairs.{conjugate, multiple, times, zero_pair}
 use Rattle.fixed_complex.proofs.Pairs.{same_parts}
 use Rattle.pilot_turns.specs.Pilots.{turn_part}
 use Rattle.pilot_turns.specs.Turned.{turned_carriers, turned_channels}
@@ -40,14 +39,6 @@ multiple_out n a b = same_parts _ _ (re n a.re a.im b.re b.im) (im n a.re a.im b
 
     im : (n a b u v : ℤ) → (n *ℤ a) *ℤ neg_ℤ v +ℤ (n *ℤ b) *ℤ u ≡ n *ℤ (a *ℤ neg_ℤ v +ℤ b *ℤ u)
     im = ring 5 (λ n a b u v. (n ⊗ a) ⊗ negated v ⊕ (n ⊗ b) ⊗ u ≗ n ⊗ (a ⊗ negated v ⊕ b ⊗ u)) refl
-
--- the components of a product of pairs whose components are bounded
-pub within_times : (m n : ℕ) (a b : Cx) → IsWithin m a → IsWithin n b → IsWithin (m * n + m * n) (times a b)
-unfolding times
-within_times m n a b h k = record {
-  re = omega (arith, ints, unsigned_abs-product a.re b.re m n h.re k.re, unsigned_abs-product a.im b.im m n h.im k.im);
-  im = omega (arith, ints, unsigned_abs-product a.re b.im m n h.re k.im, unsigned_abs-product a.im b.re m n h.im k.re);
-}
 
 -- the entries of turned lists
 times_none : (turn : Cx) → times zero_pair turn ≡ zero_pair

@@ -1,6 +1,5 @@
 -- The sums over the pilots, one by one.
-use Rattle.std.proofs.Common.{◌≡◌, ℕ, suc, ◌+◌, ◌*◌, ◌^◌, ◌≢◌, inl, inr, pos, List, [], ◌∷◌, ◌++◌, refl, ap, sym, ◌∙◌, arith}
-use Rattle.std.proofs.lemmas.Int.{ints}
+use Rattle.std.proofs.Common.{◌≡◌, ℕ, ◌+◌, ◌≢◌, inl, inr, pos, List, [], ◌∷◌, ◌++◌, refl, ap, sym, ◌∙◌, arith}
 use Rattle.std.proofs.lemmas.Bool.Decides.{eqb_tells}
 use Rattle.std.proofs.lemmas.List.{map-id}
 use Rattle.std.proofs.lemmas.List.FromFn.{map-range_with_len_more}
@@ -9,24 +8,8 @@ use Rattle.std.specs.List.{range_with_len, sum_by}
 use Rattle.fixed_complex.specs.declared.Cx.{Cx}
 use Rattle.fixed_complex.specs.Laws.{sum_below}
 use Rattle.fixed_complex.specs.PairLists.{entry}
-use Rattle.fixed_complex.specs.Pairs.{IsWithin, plus, zero_pair}
-use Rattle.pilot_turns.specs.Pilots.{pilot_back, pilot_bin, pilots_back, pilots_weight, squared_size, turn_by_pilots, turn_part}
-
-pub none_yet : (f : ℕ → Cx) → zero_pair ≡ sum_below 0 f
-unfolding sum_below
-none_yet f = refl
-
-pub one_more : (f : ℕ → Cx) (n : ℕ) (before after added : Cx) → before ≡ sum_below n f → added ≡ f n → after ≡ plus before added → after ≡ sum_below (n + 1) f
-unfolding sum_below
-one_more f n before after added is new sum =
-    let next : n + 1 ≡ suc n = omega arith in
-    sum ∙ ap (λ a. plus before a) new ∙ ap (λ b. plus b (f n)) is ∙ ap (λ m. sum_below m f) (sym next)
-
-pub sum_within : (n : ℕ) (a b : Cx) → IsWithin (n * 2 ^ 46) a → IsWithin (2 ^ 46) b → IsWithin ((n + 1) * 2 ^ 46) (plus a b)
-sum_within n a b p q = record {
-  re = omega (arith, ints, p.re, q.re);
-  im = omega (arith, ints, p.im, q.im);
-}
+use Rattle.fixed_complex.specs.Pairs.{squared_size}
+use Rattle.pilot_turns.specs.Pilots.{pilot_back, pilot_bin, pilots_back, pilots_weight, turn_by_pilots, turn_part}
 
 -- the weight, pilot by pilot
 one_more_place : (n : ℕ) → range_with_len 0 (n + 1) ≡ range_with_len 0 n ++ n ∷ []

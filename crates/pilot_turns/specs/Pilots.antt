@@ -1,11 +1,11 @@
 -- The turn of a symbol by its pilots (own; the pilots are those of IEEE Std 802.11-2012, 18.3.5.9 and 18.3.5.10).
-use Rattle.std.specs.Prelude.{ℕ, ◌+◌, ◌*◌, ◌==◌, List, ℤ, pos, ◌+ℤ◌, ◌-ℤ◌, ◌*ℤ◌, unsigned_abs, if◌then◌else◌}
+use Rattle.std.specs.Prelude.{ℕ, ◌+◌, ◌*◌, ◌==◌, List, ℤ, pos, ◌+ℤ◌, ◌-ℤ◌, ◌*ℤ◌, if◌then◌else◌}
 use Rattle.std.specs.List.{range_with_len, sum_by}
 use Rattle.integer_laws.specs.Floor.{floor_div}
 use Rattle.fixed_complex.specs.declared.Cx.{Cx}
 use Rattle.fixed_complex.specs.Laws.{sum_below}
 use Rattle.fixed_complex.specs.PairLists.{entry}
-use Rattle.fixed_complex.specs.Pairs.{conjugate, multiple, times}
+use Rattle.fixed_complex.specs.Pairs.{conjugate, multiple, squared_size, times}
 use Rattle.lane_kernels.specs.Kernels.{held}
 use Rattle.carrier_bins.specs.Carriers.{bin_of}
 use Rattle.symbol_builder.specs.Carriers.{pilot_sign_of, polarity_of}
@@ -30,10 +30,6 @@ pilot_back estimate symbol n k =
 -- P, the sum of these over the four pilots
 unfoldable pub pilots_back : List Cx → List Cx → ℕ → Cx
 pilots_back estimate symbol n = sum_below 4 (pilot_back estimate symbol n)
-
--- the square of a pair's size
-abbrev pub squared_size : Cx → ℕ
-squared_size a = unsigned_abs a.re * unsigned_abs a.re + unsigned_abs a.im * unsigned_abs a.im
 
 -- M, the sum of the squares of the channel's sizes at the four pilots
 unfoldable pub pilots_weight : List Cx → ℕ

@@ -1,10 +1,10 @@
 //! The turn of a symbol, by its pilots.
 ghost use Rattle.std.specs.Prelude.{◌≡◌, ◌*◌, ◌^◌, ◌<◌, ◌≤◌, pos, ◌+ℤ◌, ◌*ℤ◌, unsigned_abs};
 ghost use Rattle.fixed_complex.specs.PairLists.{PairsWithin};
-ghost use Rattle.fixed_complex.specs.Pairs.{IsWithin};
+ghost use Rattle.fixed_complex.specs.Pairs.{IsWithin, squared_size};
 ghost use Rattle.integer_laws.specs.Floor.{floor_div};
 ghost use Rattle.lane_kernels.specs.Kernels.{held};
-ghost use Rattle.pilot_turns.specs.Pilots.{pilot_back, pilot_carrier, sign_of_pilot, squared_size, turn_by_pilots, turn_part};
+ghost use Rattle.pilot_turns.specs.Pilots.{pilot_back, pilot_carrier, sign_of_pilot, turn_by_pilots, turn_part};
 
 use carrier_bins::bin;
 use carrier_equaliser::Estimate;

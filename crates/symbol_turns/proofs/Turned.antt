@@ -1,15 +1,13 @@
 -- A sample before the symbols, and one of a symbol that is turned.
-use Rattle.std.proofs.Common.{inl, inr, pos, length, map, arith, ◌≡◌, ℕ, ◌+◌, ◌-◌, ◌/◌, ◌<◌, ◌≤◌, List, cond, ap, sym, ◌∙◌}
+use Rattle.std.proofs.Common.{inl, inr, length, map, ◌≡◌, ℕ, ◌+◌, ◌-◌, ◌/◌, ◌<◌, ◌≤◌, List, cond, ap, sym, ◌∙◌}
 use Rattle.std.proofs.lemmas.Bool.{lt-ltb, le-ltb}
 use Rattle.fixed_complex.specs.declared.Cx.{Cx}
 use Rattle.fixed_complex.specs.declared.Sample.{Sample}
-use Rattle.fixed_complex.specs.Samples.{sample_at}
-use Rattle.fixed_complex.specs.Samples.{AreSamples, IsSample, pair_of}
+use Rattle.fixed_complex.specs.Samples.{AreSamples, IsSample, pair_of, sample_at}
+use Rattle.fixed_complex.proofs.Samples.{is_sample_at}
 use Rattle.fixed_complex.specs.Pairs.{scaled_product}
 use Rattle.lane_kernels.proofs.Holding.{held-fits}
 use Rattle.std.proofs.lemmas.Bool.{cases_lt}
-use Rattle.std.proofs.lemmas.Int.{ints}
-use Rattle.std.proofs.lemmas.List.{get_or_past}
 use Rattle.std.proofs.lemmas.List.Elements.{All-map}
 use Rattle.std.specs.List.{range_with_len}
 use Rattle.symbol_turns.specs.Turning.{turn_of_symbol, turned_at, turned_sample, turned_samples}
@@ -31,20 +29,13 @@ turned_is start step samples place turn sample result behind same_turn same is =
     is ∙ ap (λ t. turned_sample t sample) same_turn ∙ ap (turned_sample (turn_of_symbol step ((place - (start + 320)) / 80))) same ∙ sym (turned_there start step samples place behind)
 
 -- turned samples have 16 bits
-sample_is : (samples : List Sample) → AreSamples samples → (place : ℕ) → IsSample (sample_at samples place)
-sample_is samples are place =
-    elim (cases_lt place (length samples)) [
-      | inl here ↦ are place _ here
-      | inr past ↦ rw (get_or_past samples place (record { i = pos 0; q = pos 0 }) past) (record { i = omega (arith, ints); q = omega (arith, ints) })
-    ]
-
 held_is_sample : (turn : Cx) (sample : Sample) → IsSample (turned_sample turn sample)
 held_is_sample turn sample = record { i = held-fits (scaled_product turn (pair_of sample)).re; q = held-fits (scaled_product turn (pair_of sample)).im }
 
 turned_is_sample : (start step : ℕ) (samples : List Sample) → AreSamples samples → (place : ℕ) → IsSample (turned_at start step samples place)
 turned_is_sample start step samples are place =
     elim (cases_lt place (start + 320)) [
-      | inl before ↦ rw (turned_before start step samples place before) (sample_is samples are place)
+      | inl before ↦ rw (turned_before start step samples place before) (is_sample_at samples are place)
       | inr behind ↦ rw (turned_there start step samples place behind) (held_is_sample (turn_of_symbol step ((place - (start + 320)) / 80)) (sample_at samples place))
     ]
 

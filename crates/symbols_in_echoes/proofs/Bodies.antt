@@ -6,8 +6,8 @@ use Rattle.std.proofs.lemmas.List.{get_or_past}
 use Rattle.fixed_complex.specs.declared.Cx.{Cx}
 use Rattle.fixed_complex.specs.declared.Sample.{Sample}
 use Rattle.fixed_complex.specs.Pairs.{IsWithin}
-use Rattle.fixed_complex.specs.Samples.{sample_at}
-use Rattle.carrier_equaliser.specs.Received.{pair_at, received}
+use Rattle.fixed_complex.specs.Samples.{pair_at, sample_at}
+use Rattle.carrier_equaliser.specs.Received.{received}
 use Rattle.carrier_equaliser.proofs.ComingBack.{received_are_near}
 use Rattle.decided_axis.specs.Bodies.{FitABody}
 use Rattle.decided_axis.specs.Channels.{AreCarried}

@@ -10,7 +10,7 @@ use Rattle.fixed_complex.specs.declared.Cx.{Cx}
 use Rattle.fixed_complex.specs.declared.Sample.{Sample}
 use Rattle.fixed_complex.specs.PairLists.{entry}
 use Rattle.fixed_complex.specs.Pairs.{IsOfSize, IsWithin, times}
-use Rattle.fixed_complex.specs.Samples.{sample_at}
+use Rattle.fixed_complex.specs.Samples.{pair_at, sample_at}
 use Rattle.fixed_complex.proofs.PairLists.{entry-map}
 use Rattle.fixed_complex.proofs.Pairs.{same_parts}
 use Rattle.plain_waves.specs.Bodies.{all_times, plain_body}
@@ -18,7 +18,7 @@ use Rattle.plain_waves.specs.Bounds.{FitASample}
 use Rattle.plain_waves.specs.Nearness.{AreNearPlain}
 use Rattle.plain_waves.proofs.Loads.{plain_within}
 use Rattle.plain_waves.proofs.Places.{plain_body-local}
-use Rattle.carrier_equaliser.specs.Received.{pair_at, received}
+use Rattle.carrier_equaliser.specs.Received.{received}
 use Rattle.carrier_equaliser.specs.Nearness.{IsNearWave}
 use Rattle.carrier_equaliser.proofs.ComingBack.{received_are_near}
 use Rattle.decided_axis.specs.Bodies.{FitABody}

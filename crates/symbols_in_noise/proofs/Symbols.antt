@@ -13,7 +13,7 @@ use Rattle.symbol_builder.specs.Points.{points_of_code}
 use Rattle.carrier_equaliser.specs.Decided.{interleaved_decisions}
 use Rattle.carrier_equaliser.specs.Estimates.{estimate_of}
 use Rattle.carrier_equaliser.specs.Received.{received}
-use Rattle.decided_axis.specs.Channels.{IsAtLeastOfSize}
+use Rattle.fixed_complex.specs.Pairs.{IsAtLeastOfSize}
 use Rattle.decided_axis.proofs.Bodies.{decided_by_bodies}
 use Rattle.decided_axis.proofs.Fitting.{long_fit, symbol_fit}
 use Rattle.symbols_in_noise.specs.Laws.{IsNearBody}

@@ -5,11 +5,10 @@ use Rattle.integer_laws.proofs.Order.{pos-*ℤ-≤ℤ}
 use Rattle.integer_laws.proofs.Ring.{ring, number, ◌⊕◌, ◌⊖◌, ◌⊗◌, ◌≗◌}
 use Rattle.integer_laws.proofs.Sizes.{size_of_unscaled, sum_of_squares-scaled}
 use Rattle.fixed_complex.specs.declared.Cx.{Cx}
-use Rattle.fixed_complex.specs.Pairs.{IsOfSize, minus, multiple, plus, times}
+use Rattle.fixed_complex.specs.Pairs.{IsAtLeastOfSize, IsOfSize, minus, multiple, plus, times}
 use Rattle.fixed_complex.proofs.Pairs.{same_parts}
-use Rattle.fixed_complex.proofs.PairSizes.{size-plus, size-times, wider}
-use Rattle.butterfly64.proofs.UpBudget.{size-multiple}
-use Rattle.decided_axis.specs.Channels.{IsAtLeastOfSize, IsCarried, IsEstimated}
+use Rattle.fixed_complex.proofs.PairSizes.{size-multiple, size-plus, size-times, wider}
+use Rattle.decided_axis.specs.Channels.{IsCarried, IsEstimated}
 use Rattle.symbols_turned.specs.Turns.{IsTurn, unturned}
 use Rattle.symbols_turned.proofs.Pilots.{full}
 use Rattle.symbols_turned.proofs.Turning.{estimate_out, turn_large, turn_small}

@@ -30,7 +30,7 @@ use Rattle.symbols_turned.specs.Turns.{carrier_error, turn_error, unturned}
 use Rattle.symbols_turned.specs.Laws.{AreTurned, DecidedTurned, TurnIsTold}
 use Rattle.symbols_turned.proofs.Channels.{carried_more, estimated_more, large_more}
 use Rattle.symbols_turned.proofs.Numbers.{bears, channel_error, error_before, left_at_pilots, left_of_turned}
-use Rattle.symbols_turned.proofs.Pilots.{signed}
+use Rattle.decided_axis.proofs.Channels.{signed}
 use Rattle.symbols_turned.proofs.Turning.{IsPilot, turn_near}
 
 -- ---- the pilots: their bins, their signs, and what they carry

@@ -7,19 +7,14 @@ use Rattle.integer_laws.proofs.Order.{pos-le, unsigned_abs-le}
 use Rattle.integer_laws.proofs.Ring.{equal_by_multiple, ring, negated, number, ◌⊕◌, ◌⊖◌, ◌⊗◌, ◌≗◌}
 use Rattle.integer_laws.proofs.Sizes.{size_of_scaled, size_of_unscaled, sum_of_squares_is}
 use Rattle.fixed_complex.specs.declared.Cx.{Cx}
-use Rattle.fixed_complex.specs.Pairs.{IsOfSize, conjugate, minus, multiple, plus, times, zero_pair}
+use Rattle.fixed_complex.specs.Pairs.{IsOfSize, conjugate, minus, multiple, plus, times, zero_pair, squared_size}
 use Rattle.fixed_complex.proofs.Pairs.{same_parts}
-use Rattle.fixed_complex.proofs.PairSizes.{size-conjugate, size-minus, size-plus, size-times, size-within, wider}
-use Rattle.butterfly64.proofs.UpBudget.{size-multiple}
-use Rattle.pilot_turns.specs.Pilots.{squared_size}
+use Rattle.fixed_complex.proofs.PairSizes.{size-conjugate, size-minus, size-multiple, size-plus, size-times, size-within, wider}
+use Rattle.decided_axis.proofs.Channels.{signed}
 
 -- the estimate of a channel that does nothing
 abbrev pub full : Cx
 full = record { re = pos 41472; im = pos 0 }
-
--- what a pilot carries, with its sign
-abbrev pub signed : ℤ → Cx
-signed sign = record { re = pos 648 *ℤ sign; im = pos 0 }
 
 -- ---- one pilot: twice the scale times what it brings back, less the square of the channel's size times the turn
 re_law : (s σ y z h k w f : ℤ) → (s +ℤ s) *ℤ (σ *ℤ (y *ℤ h -ℤ z *ℤ neg_ℤ k)) -ℤ (h *ℤ h +ℤ k *ℤ k) *ℤ w -ℤ (((σ +ℤ σ) *ℤ (s *ℤ y -ℤ pos 32 *ℤ (pos 648 *ℤ σ *ℤ w -ℤ pos 0 *ℤ f)) -ℤ (w *ℤ (h -ℤ pos 41472) -ℤ f *ℤ (k -ℤ pos 0))) *ℤ h -ℤ ((σ +ℤ σ) *ℤ (s *ℤ z -ℤ pos 32 *ℤ (pos 648 *ℤ σ *ℤ f +ℤ pos 0 *ℤ w)) -ℤ (w *ℤ (k -ℤ pos 0) +ℤ f *ℤ (h -ℤ pos 41472))) *ℤ neg_ℤ k)

@@ -1,22 +1,23 @@
 -- The turn of a symbol, from carriers that came back: its error, and that nothing of it is held.
 use Rattle.std.proofs.Common.{◌≡◌, ℕ, ◌+◌, ◌-◌, ◌*◌, ◌^◌, ◌<◌, ◌≤◌, inl, inr, List, refl, arith, mul-le-mul, ℤ, pos, ◌+ℤ◌, ◌-ℤ◌, ◌*ℤ◌, unsigned_abs}
 use Rattle.std.proofs.lemmas.Bool.Decides.{eqb_tells}
-use Rattle.std.proofs.lemmas.Int.{ints, clamps}
-use Rattle.integer_laws.proofs.Order.{le_of_pos-le, pos-le, ≤ℤ_trans}
+use Rattle.std.proofs.lemmas.Int.{ints}
+use Rattle.integer_laws.proofs.Order.{pos-le, ≤ℤ_trans}
 use Rattle.integer_laws.proofs.Ring.{ring, number, ◌⊖◌, ◌⊗◌, ◌≗◌}
-use Rattle.integer_laws.proofs.Sizes.{size_of_unscaled, sum_of_squares_is}
+use Rattle.integer_laws.proofs.Sizes.{size_of_unscaled}
 use Rattle.fixed_complex.specs.declared.Cx.{Cx}
 use Rattle.fixed_complex.specs.Laws.{sum_below}
 use Rattle.fixed_complex.specs.PairLists.{entry}
-use Rattle.fixed_complex.specs.Pairs.{IsOfSize, IsWithin, minus, multiple}
+use Rattle.fixed_complex.specs.Pairs.{IsAtLeastOfSize, IsOfSize, IsWithin, minus, multiple, squared_size}
 use Rattle.fixed_complex.proofs.Pairs.{same_parts}
-use Rattle.fixed_complex.proofs.PairSizes.{within-size}
+use Rattle.fixed_complex.proofs.PairSizes.{least_squared, within-size}
 use Rattle.lane_kernels.specs.Kernels.{held}
-use Rattle.decided_axis.specs.Channels.{IsAtLeastOfSize, IsCarried, IsEstimated}
-use Rattle.decided_axis.proofs.Channels.{left_of}
-use Rattle.pilot_turns.specs.Pilots.{pilot_back, pilot_bin, pilots_back, pilots_weight, sign_of_pilot, squared_size, turn_by_pilots, turn_part}
+use Rattle.lane_kernels.proofs.Holding.{held-small}
+use Rattle.decided_axis.specs.Channels.{IsCarried, IsEstimated}
+use Rattle.decided_axis.proofs.Channels.{left_of, signed}
+use Rattle.pilot_turns.specs.Pilots.{pilot_back, pilot_bin, pilots_back, pilots_weight, sign_of_pilot, turn_by_pilots, turn_part}
 use Rattle.symbols_turned.specs.Turns.{IsTurn, unturned}
-use Rattle.symbols_turned.proofs.Pilots.{four_pairs, four_weights, full, quotient, signed, size_away, size_four, told}
+use Rattle.symbols_turned.proofs.Pilots.{four_pairs, four_weights, full, quotient, size_away, size_four, told}
 
 -- ---- a turn's size
 pub turn_small : (w : Cx) → IsTurn w → IsOfSize 1048578 w
@@ -40,14 +41,8 @@ estimate_out e h estimated =
     im = ring 1 (λ h. number (pos 1048576) ⊗ (h ⊖ number (pos 0)) ≗ number (pos 1048576) ⊗ h ⊖ number (pos 41472) ⊗ number (pos 0)) refl
 
 -- a part that is not held
-held_is : (z : ℤ) → unsigned_abs z ≤ 32767 → held z ≡ z
-held_is z small = omega (arith, ints, clamps)
-
 part_small : (u w : ℤ) (most : ℕ) → most ≤ 4000 → unsigned_abs (pos 1048576 *ℤ u -ℤ pos 16384 *ℤ w) ≤ 1048576 * most → unsigned_abs w ≤ 1048578 → unsigned_abs u ≤ 16385 + most
 part_small u w most few near small = omega (arith, ints)
-
-large_square : (bound : ℕ) (a : Cx) → IsAtLeastOfSize bound a → bound * bound ≤ squared_size a
-large_square bound a least = le_of_pos-le (bound * bound) (squared_size a) (rw (sum_of_squares_is a.re a.im) at least.size)
 
 full_large : IsAtLeastOfSize 1048576 unturned
 full_large = record { size = pos-le (1048576 * 1048576) (1048576 * 1048576) (omega arith) }
@@ -71,7 +66,7 @@ module _ (error left most : ℕ) (turn : Cx) (estimate symbol : List Cx) (n : �
 
   channel_square : (k : ℕ) → k < 4 → left * left ≤ squared_size (channel k)
   channel_square k lt =
-      large_square left (channel k) (left_of 1048576 (2 * error) 1048576 left unturned (channel k) (pilots k lt).estimates full_large leaves)
+      least_squared left (channel k) (left_of 1048576 (2 * error) 1048576 left unturned (channel k) (pilots k lt).estimates full_large leaves)
 
   one_pilot : (k : ℕ) → k < 4 → IsOfSize (pilot_error error) (minus (multiple (pos 1048576 +ℤ pos 1048576) (pilot_back estimate symbol n k)) (multiple (pos (squared_size (channel k))) turn))
   one_pilot k lt =
@@ -128,8 +123,8 @@ module _ (error left most : ℕ) (turn : Cx) (estimate symbol : List Cx) (n : �
   turn_is =
       let weight = pilots_weight estimate in
       let small = turned_small in
-      let re : turn_part weight (pilots_back estimate symbol n).re ≡ turned.re = held_is turned.re (omega (arith, small.re)) in
-      let im : turn_part weight (pilots_back estimate symbol n).im ≡ turned.im = held_is turned.im (omega (arith, small.im)) in
+      let re : turn_part weight (pilots_back estimate symbol n).re ≡ turned.re = held-small turned.re (omega (arith, small.re)) in
+      let im : turn_part weight (pilots_back estimate symbol n).im ≡ turned.im = held-small turned.im (omega (arith, small.im)) in
       elim (eqb_tells weight 0) [
         | inl none ↦ let zero_weight : weight ≡ 0 = none.1 in absurd (omega (arith, weight_some, zero_weight))
         | inr test ↦ rw test.0 (same_parts _ _ re im)

@@ -6,7 +6,7 @@ use Rattle.fixed_complex.specs.PairLists.{by_256}
 use Rattle.fixed_complex.proofs.PairLists.{within-set, within-zeros}
 use Rattle.fixed_complex.proofs.PairSizes.{size-within}
 use Rattle.integer_laws.proofs.Filled.{none_filled, one_more}
-use Rattle.carrier_equaliser.specs.Received.{pair_at}
+use Rattle.fixed_complex.specs.Samples.{pair_at}
 use Rattle.carrier_equaliser.proofs.by_256.Goals as goal
 
 pub loop-n-init : goal.loop-n-init

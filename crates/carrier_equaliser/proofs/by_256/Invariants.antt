@@ -2,7 +2,7 @@ use Rattle.std.proofs.Common.{ℕ, ◌^◌, ◌<◌}
 use Rattle.fixed_complex.specs.Pairs.{IsWithin, zero_pair}
 use Rattle.fixed_complex.specs.PairLists.{PairsWithin, by_256}
 use Rattle.integer_laws.proofs.Filled.{IsFilled}
-use Rattle.carrier_equaliser.specs.Received.{pair_at}
+use Rattle.fixed_complex.specs.Samples.{pair_at}
 use Rattle.carrier_equaliser.proofs.by_256.Given as goal
 
 abbrev pub invariant-loop-n : goal.invariant-loop-n

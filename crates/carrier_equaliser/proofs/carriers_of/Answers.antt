@@ -8,7 +8,8 @@ use Rattle.butterfly64.proofs.Halves.{down_at-local}
 use Rattle.fixed_complex.proofs.PairSizes.{within-size}
 use Rattle.integer_laws.proofs.Filled.{all_filled, none_filled, one_more}
 use Rattle.fixed_complex.proofs.PairLists.{entry-map}
-use Rattle.carrier_equaliser.specs.Received.{pair_at, received_at}
+use Rattle.fixed_complex.specs.Samples.{pair_at}
+use Rattle.carrier_equaliser.specs.Received.{received_at}
 use Rattle.carrier_equaliser.proofs.carriers_of.Goals as goal
 
 -- a staged sum of the samples times 256, rounded

@@ -41,7 +41,7 @@ add-sum-requires c =
     let xs = c.args.carriers.now in
     let bin = c.loop-bin.bin in
     let one = 1908 * 1048577 in
-    let sum = size-sum bin one (turned xs c.args.n) (λ m. one_size xs c.args.n m c.requires.within) in
+    let sum = size-sum bin one (turned xs c.args.n) (λ m _. one_size xs c.args.n m c.requires.within) in
     record {
       a = rw c.loop-bin.invariant (within_wider (bin * one) (2 ^ 61) _ (omega arith) (within-size (bin * one) _ sum));
       b =

@@ -1,12 +1,11 @@
 use Rattle.std.proofs.Common.{ℕ, ◌+◌, ◌-◌, ap, refl, arith}
 use Rattle.std.specs.List.{slice_range}
 use Rattle.fixed_complex.specs.PairLists.{entry}
-use Rattle.fixed_complex.specs.Samples.{sample_at}
+use Rattle.fixed_complex.specs.Samples.{pair_at, sample_at}
 use Rattle.fixed_complex.proofs.PairLists.{everywhere_within}
 use Rattle.lane_kernels.proofs.Parts.{samples_of}
 use Rattle.lane_kernels.proofs.Wholes.{sample-chunk}
 use Rattle.echo_taps.specs.Blocks.{gathered_by}
-use Rattle.echo_taps.specs.Echoes.{pairs_at}
 use Rattle.echo_taps.proofs.BlockSums.{imaginary_sums, imaginary_within, of_16_bits, one_delay_more, products_within, real_sums, real_within, sums_within}
 use Rattle.echo_taps.proofs.lanes.add_tap.Goals as goal
 
@@ -45,7 +44,7 @@ returns c =
     let at : ℕ = place - late in
     let tap = entry pairs late in
     let a = sample_at (slice_range samples at (at + 4)) in
-    let f = λ (n : ℕ). gathered_by late pairs (pairs_at samples) (place + n) in
+    let f = λ (n : ℕ). gathered_by late pairs (pair_at samples) (place + n) in
     let before = c.requires.sums.value in
     let re = real_sums tap f a c.args.sums.re c.tap_lanes-by.result.re c.components-x.result c.products.result c.added.result (ap (λ s. s.re) before) c.tap_lanes-by.ensures.re c.components-x.ensures.value c.products.ensures c.added.ensures in
     let im = imaginary_sums tap f a c.args.sums.im c.tap_lanes-by.result.im c.components-x.result c.products-2.result c.added-2.result (ap (λ s. s.im) before) c.tap_lanes-by.ensures.im c.components-x.ensures.value c.products-2.ensures c.added-2.ensures in

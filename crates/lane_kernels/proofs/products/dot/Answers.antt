@@ -4,8 +4,7 @@ use Rattle.fixed_complex.specs.declared.Cx.{Cx}
 use Rattle.fixed_complex.specs.Pairs.{IsWithin}
 use Rattle.lane_kernels.specs.Kernels.{dot_of, product_of}
 use Rattle.fixed_complex.specs.Samples.{sample_at}
-use Rattle.lane_kernels.proofs.Parts.{times-within}
-use Rattle.fixed_complex.proofs.PairSizes.{within-conjugate}
+use Rattle.fixed_complex.proofs.PairSizes.{within-conjugate, within-times}
 use Rattle.fixed_complex.proofs.Pairs.{same_parts}
 use Rattle.lane_kernels.proofs.Totals.{total-one}
 use Rattle.lane_kernels.proofs.Wholes.{dot-total_re, dot-total_im}
@@ -16,7 +15,7 @@ use Rattle.lane_kernels.proofs.products.dot.Goals.{After-mul}
 product-within : (c : After-mul) → IsWithin (2 ^ 31) c.mul.result
 product-within c =
     let conjugated : IsWithin (2 ^ 15) c.conj.result = rw c.conj.ensures (within-conjugate (2 ^ 15) c.pair-in-loop-n.result c.pair-in-loop-n.ensures.within) in
-    rw c.mul.ensures (times-within c.pair.result c.conj.result c.pair.ensures.within conjugated)
+    rw c.mul.ensures (within-times (2 ^ 15) (2 ^ 15) c.pair.result c.conj.result c.pair.ensures.within conjugated)
 
 pub add-dot-requires-clause-b : goal.add-dot-requires-clause-b
 add-dot-requires-clause-b c =

@@ -5,11 +5,12 @@ use Rattle.fixed_complex.specs.PairLists.{entry}
 use Rattle.carrier_bins.specs.Carriers.{bin_of, data_carrier_of}
 use Rattle.carrier_equaliser.specs.Decided.{decided_at}
 use Rattle.pilot_turns.specs.Turned.{turned_carriers, turned_channels}
-use Rattle.pilot_turns.proofs.Parts.{carrier_entry, channel_entry, within_times}
+use Rattle.fixed_complex.proofs.PairSizes.{within-times}
+use Rattle.pilot_turns.proofs.Parts.{carrier_entry, channel_entry}
 use Rattle.pilot_turns.proofs.decisions.decided_number.Goals as goal
 
 pub decided-requires-clause-channel : goal.decided-requires-clause-channel
-decided-requires-clause-channel c = rw c.mul.ensures (within_times (2 ^ 23) (2 ^ 15) c.at.result c.args.turn c.at.ensures.within c.requires.turn)
+decided-requires-clause-channel c = rw c.mul.ensures (within-times (2 ^ 23) (2 ^ 15) c.at.result c.args.turn c.at.ensures.within c.requires.turn)
 
 pub returns-clause-value : goal.returns-clause-value
 unfolding decided_at

@@ -1,15 +1,17 @@
-use Rattle.std.proofs.Common.{◌≡◌, refl, ap, ◌∙◌, sym, arith}
+use Rattle.std.proofs.Common.{◌≡◌, ◌^◌, refl, ap, ◌∙◌, sym, arith}
 use Rattle.carrier_bins.specs.Carriers.{bin_of}
 use Rattle.fixed_complex.proofs.Pairs.{same_parts}
 use Rattle.fixed_complex.specs.PairLists.{entry}
-use Rattle.pilot_turns.specs.Pilots.{pilot_bin, squared_size}
+use Rattle.fixed_complex.specs.Pairs.{squared_size}
+use Rattle.pilot_turns.specs.Pilots.{pilot_bin}
 use Rattle.pilot_turns.proofs.Parts.{carrier_is, part_is}
-use Rattle.pilot_turns.proofs.Sums.{no_turn, none_yet, one_more, some_turn, sum_within, weight_more}
+use Rattle.fixed_complex.proofs.Sums.{sum-more, sum-none, within-more}
+use Rattle.pilot_turns.proofs.Sums.{no_turn, some_turn, weight_more}
 use Rattle.pilot_turns.proofs.pilots.pilot_turn.Goals as goal
 
 pub loop-k-init : goal.loop-k-init
 loop-k-init c = record {
-  back = none_yet _;
+  back = sum-none _;
   within = record { re = omega arith; im = omega arith };
   weight = refl;
   most = omega arith;
@@ -23,8 +25,8 @@ loop-k-preserved c =
     let channel : c.at.result ≡ entry estimate (pilot_bin k) = c.at.ensures.value ∙ ap (λ z. entry estimate (bin_of z)) carrier in
     let square : c.size_squared-weight.result ≡ squared_size (entry estimate (pilot_bin k)) = c.size_squared-weight.ensures.value ∙ ap squared_size channel in
     record {
-      back = one_more _ k c.loop-k.sum c.add-sum.result c.pilot.result c.loop-k.invariant.back c.pilot.ensures.back c.add-sum.ensures;
-      within = rw c.add-sum.ensures (sum_within k c.loop-k.sum c.pilot.result c.loop-k.invariant.within c.pilot.ensures.within);
+      back = sum-more _ k c.loop-k.sum c.add-sum.result c.pilot.result c.loop-k.invariant.back c.pilot.ensures.back c.add-sum.ensures;
+      within = rw c.add-sum.ensures (within-more (2 ^ 46) k c.loop-k.sum c.pilot.result c.loop-k.invariant.within c.pilot.ensures.within);
       weight = weight_more estimate k c.loop-k.weight c.size_squared-weight.result c.loop-k.invariant.weight square;
       most = let m = c.loop-k.invariant.most in let q = c.size_squared-weight.ensures.most in omega (arith, m, q);
     }

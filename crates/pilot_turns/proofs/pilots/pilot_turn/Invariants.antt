@@ -2,8 +2,8 @@ use Rattle.std.proofs.Common.{◌≡◌, ◌*◌, ◌^◌, ◌≤◌}
 use Rattle.std.specs.List.{range_with_len, sum_by}
 use Rattle.fixed_complex.specs.Laws.{sum_below}
 use Rattle.fixed_complex.specs.PairLists.{entry}
-use Rattle.fixed_complex.specs.Pairs.{IsWithin}
-use Rattle.pilot_turns.specs.Pilots.{pilot_back, pilot_bin, squared_size}
+use Rattle.fixed_complex.specs.Pairs.{IsWithin, squared_size}
+use Rattle.pilot_turns.specs.Pilots.{pilot_back, pilot_bin}
 use Rattle.pilot_turns.proofs.pilots.pilot_turn.Given as goal
 
 abbrev pub invariant-loop-k : goal.invariant-loop-k
