@@ -8,6 +8,12 @@ ghost use Rattle.carrier_bins.specs.Carriers.{bin_of, data_carrier_of};
 
 pub mod laws;
 
+// The bins of the carriers of the data numbers.
+static DATA_BINS: [u8; 48] = [
+    38, 39, 40, 41, 42, 44, 45, 46, 47, 48, 49, 50, 51, 52, 53, 54, 55, 56, 58, 59, 60, 61, 62, 63,
+    1, 2, 3, 4, 5, 6, 8, 9, 10, 11, 12, 13, 14, 15, 16, 17, 18, 19, 20, 22, 23, 24, 25, 26,
+];
+
 /// The carrier, from -26 to 26, of data number k, from 0 to 47 (IEEE Std 802.11-2012, 18.3.5.10).
 pub fn data_carrier(k: usize) -> i32
     requires { k < 48 }
@@ -32,6 +38,16 @@ pub fn bin(carrier: i32) -> usize
     ensures within { result < 64 }
 {
     carrier.rem_euclid(64) as usize
+}
+
+/// The bin of the carrier of data number k, from 0 to 47 (IEEE Std 802.11-2012, 18.3.5.10; bins are own).
+#[inline(always)]
+pub fn data_bin(k: usize) -> usize
+    requires { k < 48 }
+    ensures bin { result ≡ bin_of (data_carrier_of k) }
+    ensures within { result < 64 }
+{
+    usize::from(DATA_BINS[k])
 }
 
 /// The carrier, from -32 to 31, that stands in a bin below 64 (own).

@@ -5,10 +5,10 @@ ghost use Rattle.fixed_complex.specs.PairLists.{PairsWithin};
 ghost use Rattle.rate_table.specs.declared.Rate.{Rate};
 ghost use Rattle.rate_table.specs.Table.{bits_of_modulation, row_of};
 ghost use Rattle.fixed_complex.specs.Pairs.{IsWithin, conjugate, times};
-ghost use Rattle.carrier_bins.specs.Carriers.{bin_of, data_carrier_of};
 ghost use Rattle.carrier_equaliser.specs.Decided.{decided_at, decided_over, interleaved_decisions};
 ghost use Rattle.integer_laws.specs.Size.{sum_of_squares};
 
+use carrier_bins::data_bin;
 use constellations::decide;
 use fixed_complex::{Cx, conj, mul};
 use rate_table::{Modulation, Rate};
@@ -81,7 +81,7 @@ fn decided_number(
     ensures others { (j : ℕ) → bits_of_modulation modulation ≤ j → slice_index result j ≡ 0 }
     ensures bits { AreBits result }
 {
-    let bin = bin_of_number(number);
+    let bin = data_bin(number);
     decided(modulation, bins[bin], symbol[bin])
 }
 
@@ -130,18 +130,3 @@ fn square(part: i64) -> i64
 {
     part * part
 }
-
-// The bin of a data number.
-fn bin_of_number(number: usize) -> usize
-    requires { number < 48 }
-    ensures bin { result ≡ bin_of (data_carrier_of number) }
-    ensures within { result < 64 }
-{
-    usize::from(DATA_BINS[number])
-}
-
-// The bins of the data numbers in turn.
-static DATA_BINS: [u8; 48] = [
-    38, 39, 40, 41, 42, 44, 45, 46, 47, 48, 49, 50, 51, 52, 53, 54, 55, 56, 58, 59, 60, 61, 62, 63,
-    1, 2, 3, 4, 5, 6, 8, 9, 10, 11, 12, 13, 14, 15, 16, 17, 18, 19, 20, 22, 23, 24, 25, 26,
-];

@@ -7,18 +7,12 @@ ghost use Rattle.plain_waves.specs.Nearness.{AreNearPlain};
 ghost use Rattle.symbol_builder.specs.Carriers.{pilot_at, plain_symbol, sent_symbol, symbol_bins, symbol_times};
 
 use crate::polarity;
-use constellations::bin;
+use carrier_bins::{bin, data_bin};
 use fixed_complex::{Cx, Sample};
 use plain_waves::sent_samples;
 
 // What a pilot carries, but for its sign.
 const PILOT_AMPLITUDE: i64 = 648;
-
-// The bins of the carriers of the data numbers.
-static DATA_BINS: [u8; 48] = [
-    38, 39, 40, 41, 42, 44, 45, 46, 47, 48, 49, 50, 51, 52, 53, 54, 55, 56, 58, 59, 60, 61, 62, 63,
-    1, 2, 3, 4, 5, 6, 8, 9, 10, 11, 12, 13, 14, 15, 16, 17, 18, 19, 20, 22, 23, 24, 25, 26,
-];
 
 /// What the carriers of symbol n carry, by bin: the 48 points, each component at most 700 in size, on the carriers of
 /// their data numbers, the four pilots with the polarity of n, and 0 elsewhere (IEEE Std 802.11-2012, 18.3.5.9 and
@@ -30,7 +24,7 @@ pub fn carriers(points: &[Cx; 48], n: u32) -> [Cx; 64]
 {
     let mut carriers = pilots(n);
     for k in 0..48 {
-        carriers[usize::from(DATA_BINS[k])] = points[k];
+        carriers[data_bin(k)] = points[k];
     }
     carriers
 }

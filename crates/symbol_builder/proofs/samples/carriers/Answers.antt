@@ -1,5 +1,5 @@
-use Rattle.std.proofs.Common.{◌≡◌, ℕ, ◌+◌, ◌<◌, ◌≤◌, List, length, slice_index, true, nat_eq, leb, refl, set, ap, sym, ◌∙◌, arith, inl, inr, get_or-set_same, get_or-set_other, length-set}
-use Rattle.std.proofs.lemmas.Bool.{agree_below_at, cases_eq, eqb-true, leb-true}
+use Rattle.std.proofs.Common.{◌≡◌, ℕ, ◌+◌, ◌<◌, List, length, set, ap, sym, ◌∙◌, arith, inl, inr, get_or-set_same, get_or-set_other, length-set}
+use Rattle.std.proofs.lemmas.Bool.{cases_eq}
 use Rattle.std.proofs.lemmas.List.FromFn.{length-map-range_with_len}
 use Rattle.fixed_complex.specs.declared.Cx.{Cx}
 use Rattle.fixed_complex.specs.Pairs.{zero_pair}
@@ -8,23 +8,9 @@ use Rattle.fixed_complex.proofs.PairLists.{is_by_place, entry-map}
 use Rattle.carrier_bins.specs.Carriers.{bin_of, data_carrier_of}
 use Rattle.carrier_bins.specs.Bins.{by_bin}
 use Rattle.symbol_builder.specs.Carriers.{pilot_at, symbol_bin}
-use Rattle.symbol_builder.specs.declared.samples.TheConstants.{DATA_BINS}
 use Rattle.symbol_builder.proofs.Bins.{all_placed, none_placed, one_placed, others_stay, placed}
 use Rattle.symbol_builder.proofs.SymbolSizes.{symbol_within}
 use Rattle.symbol_builder.proofs.samples.carriers.Goals as goal
-
--- the table has the bin of each data number's carrier
-bin_in_table : (k : ℕ) → k < 48 → slice_index DATA_BINS k ≡ bin_of (data_carrier_of k)
-unfolding bin_of data_carrier_of
-bin_in_table k lt = eqb-true _ _ (agree_below_at (λ k. nat_eq (slice_index DATA_BINS k) (bin_of (data_carrier_of k))) (λ k. true) 48 k refl lt)
-
-bin_within : (k : ℕ) → k < 48 → slice_index DATA_BINS k < 64
-bin_within k lt =
-    let small : slice_index DATA_BINS k ≤ 63 = leb-true _ _ (agree_below_at (λ k. leb (slice_index DATA_BINS k) 63) (λ k. true) 48 k refl lt) in
-    omega arith
-
-pub bounds-carriers-from : goal.bounds-carriers-from
-bounds-carriers-from c = rw c.from.ensures (bin_within c.loop-k.k c.loop-k-test.true)
 
 pub loop-k-init : goal.loop-k-init
 loop-k-init c = record {
@@ -47,11 +33,10 @@ one_more xs points n k b long so_far small b_lt e bin lt =
 pub loop-k-preserved : goal.loop-k-preserved
 loop-k-preserved c =
     let k = c.loop-k.k in
-    let there = c.from.ensures ∙ bin_in_table k c.loop-k-test.true in
-    let within : c.from.result < 64 = rw c.from.ensures (bin_within k c.loop-k-test.true) in
+    let b = c.data_bin.result in
     record {
-      long = length-set c.loop-k.carriers c.from.result _ ∙ c.loop-k.invariant.long;
-      each = one_more c.loop-k.carriers c.args.points.now c.args.n k c.from.result c.loop-k.invariant.long c.loop-k.invariant.each c.loop-k-test.true within there;
+      long = length-set c.loop-k.carriers b _ ∙ c.loop-k.invariant.long;
+      each = one_more c.loop-k.carriers c.args.points.now c.args.n k b c.loop-k.invariant.long c.loop-k.invariant.each c.loop-k-test.true c.data_bin.ensures.within c.data_bin.ensures.bin;
     }
 
 -- all points placed
