@@ -92,11 +92,18 @@ pub(crate) fn check_in_pieces(
     Ok(())
 }
 
-// The words of a command line.
+// The words of a command line. What stands behind a colon and a space is one word.
 pub(crate) fn words_of(alloc: Global, line: &str) -> Result<Vec<String>, AllocError> {
+    let (plain, text) = match line.split_once(": ") {
+        Some((plain, text)) => (plain, Some(text)),
+        None => (line, None),
+    };
     let mut words = Vec::new(alloc);
-    for word in line.split_whitespace() {
+    for word in plain.split_whitespace() {
         words.push(String::from_str(alloc, word)?)?;
+    }
+    if let Some(text) = text {
+        words.push(String::from_str(alloc, text)?)?;
     }
     Ok(words)
 }
@@ -597,6 +604,10 @@ fn reports_a_failing_source(rt: HostRuntime) -> Result<(), Fail> {
         ("send 36 93", &octets[..], 64, 3),
         ("receive", &frame[..], 700, 7),
         ("receive-at 0", &frame[..], 700, 7),
+        ("receive-phase 0", &frame[..], 700, 7),
+        ("rotate 0 5", &frame[..], 700, 7),
+        ("echo: 7 200 -50", &frame[..], 700, 7),
+        ("noise: lead 0", &frame[..], 700, 7),
         ("send-list", &b"36 93 16 00\n6 1 20 ff\n"[..], 8, 4),
     ] {
         for call in 1..9u64 {
@@ -633,6 +644,10 @@ fn reports_a_failing_sink(rt: HostRuntime) -> Result<(), Fail> {
         ("send 36 93", &octets[..], 1000, 4),
         ("receive", &frame[..], 100, 3),
         ("receive-at 0", &frame[..], 100, 3),
+        ("receive-phase 0", &frame[..], 100, 3),
+        ("rotate 0 5", &frame[..], 1000, 4),
+        ("echo: 7 200 -50", &frame[..], 1000, 4),
+        ("noise: lead 0", &frame[..], 1000, 4),
     ] {
         let mut source = MemSource::open(rt.alloc(), input, 64, &[])?;
         let mut whole = MemSink::open(rt.alloc(), 4000, most, &[])?;
