@@ -1,8 +1,8 @@
 //! The transform of 64 pairs, up and down, in staged whole numbers (own). No call takes memory.
 #![tactic(auto)]
 
-ghost use Rattle.std.specs.Prelude.{◌≡◌, ℕ, ◌+◌, ◌-◌, ◌*◌, ◌^◌, ◌<◌, ◌≤◌, length};
-ghost use Rattle.fixed_complex.specs.Pairs.{IsOfSize, conjugate, plus, minus, scaled_product};
+ghost use Rattle.std.specs.Prelude.{◌≡◌, ℕ, ◌+◌, ◌-◌, ◌*◌, ◌^◌, ◌<◌, ◌≤◌, length, true};
+ghost use Rattle.fixed_complex.specs.Pairs.{IsOfSize, IsWithin, conjugate, plus, minus, scaled_product};
 ghost use Rattle.fixed_complex.specs.Turns.{turn_at};
 ghost use Rattle.butterfly64.specs.StagedSums.{up_at, down_at, up_sums, down_sums};
 ghost use Rattle.fixed_complex.specs.PairLists.{entry, PairsWithin, PairsOfSize};
@@ -33,9 +33,11 @@ pub fn up(x: &[Cx; 64]) -> [Cx; 64]
     ensures sizes { (a : ℕ) → a ≤ 2 ^ 31 → PairsOfSize a x.now → PairsOfSize (65 * a + 256) result }
     ensures within { PairsWithin (2 ^ 40 - 1) result }
 {
-    let mut sums = eights(&in_mirror_order(x));
-    up_eights(&mut sums, 3);
-    pairs(&sums)
+    if are_small(x) {
+        up_words(x)
+    } else {
+        up_wide(x)
+    }
 }
 
 /// The same as `up`, of 64 pairs that are at most 2^24 in size. Works in lanes of 32 bits. Takes no memory.
@@ -44,24 +46,25 @@ pub fn up_words(x: &[Cx; 64]) -> [Cx; 64]
     ensures sums { result ≡ up_sums x.now }
     ensures within { PairsWithin (2 ^ 31 - 1) result }
 {
-    row_pairs(&up_rows(&rows_of(x)))
+    let mut rows = rows_of(x);
+    up_rows(&mut rows);
+    row_pairs(&rows)
 }
 
-/// The same as `up`, of 64 pairs of words in eight rows, at most 2^24 in size. Works in lanes of 32 bits. Takes no memory.
-pub fn up_rows(x: &[Row; 8]) -> [Row; 8]
-    requires { RowsOfSize (2 ^ 24) x.now }
-    ensures sums { (n : ℕ) → n < 64 → place_in result n ≡ up_at 6 (place_in x.now) n }
-    ensures sizes { RowsOfSize (65 * 2 ^ 24 + 256) result }
+/// Replaces 64 pairs of words in eight rows, at most 2^24 in size, by their staged sums `up`. Works in lanes of 32 bits.
+/// Takes no memory.
+pub fn up_rows(rows: &mut [Row; 8])
+    requires { RowsOfSize (2 ^ 24) rows.old }
+    ensures sums { (n : ℕ) → n < 64 → place_in rows.new n ≡ up_at 6 (place_in rows.old) n }
+    ensures sizes { RowsOfSize (65 * 2 ^ 24 + 256) rows.new }
 {
-    let mut even = *x;
-    let mut odd = even;
-    join_rows(&even, &mut odd, 0);
-    join_rows(&odd, &mut even, 1);
-    join_rows(&even, &mut odd, 2);
-    join_rows(&odd, &mut even, 3);
-    join_rows(&even, &mut odd, 4);
-    join_rows(&odd, &mut even, 5);
-    even
+    let mut odd = *rows;
+    join_rows(rows, &mut odd, 0);
+    join_rows(&odd, rows, 1);
+    join_rows(rows, &mut odd, 2);
+    join_rows(&odd, rows, 3);
+    join_rows(rows, &mut odd, 4);
+    join_rows(&odd, rows, 5);
 }
 
 /// The staged sums `down` of 64 pairs whose components are at most 2^30 in size: at place c about the sum over n of
@@ -72,9 +75,11 @@ pub fn down(x: &[Cx; 64]) -> [Cx; 64]
     ensures sizes { (a : ℕ) → a ≤ 2 ^ 31 → PairsOfSize a x.now → PairsOfSize (65 * a + 256) result }
     ensures within { PairsWithin (2 ^ 40 - 1) result }
 {
-    let mut sums = eights(x);
-    down_eights(&mut sums, 3);
-    in_mirror_order(&pairs(&sums))
+    if are_small(x) {
+        down_words(x)
+    } else {
+        down_wide(x)
+    }
 }
 
 /// The same as `down`, of 64 pairs that are at most 2^24 in size. Works in lanes of 32 bits. Takes no memory.
@@ -83,15 +88,25 @@ pub fn down_words(x: &[Cx; 64]) -> [Cx; 64]
     ensures sums { result ≡ down_sums x.now }
     ensures within { PairsWithin (2 ^ 31 - 1) result }
 {
-    let mut even = rows_of(x);
-    let mut odd = even;
-    part_rows(&even, &mut odd, 0);
-    part_rows(&odd, &mut even, 1);
-    part_rows(&even, &mut odd, 2);
-    part_rows(&odd, &mut even, 3);
-    part_rows(&even, &mut odd, 4);
-    part_rows(&odd, &mut even, 5);
-    row_pairs(&even)
+    let mut rows = rows_of(x);
+    down_rows(&mut rows);
+    row_pairs(&rows)
+}
+
+/// Replaces 64 pairs of words in eight rows, at most 2^24 in size, by their staged sums `down`. Works in lanes of 32 bits.
+/// Takes no memory.
+pub fn down_rows(rows: &mut [Row; 8])
+    requires { RowsOfSize (2 ^ 24) rows.old }
+    ensures sums { (n : ℕ) → n < 64 → place_in rows.new n ≡ down_at 6 (place_in rows.old) n }
+    ensures sizes { RowsOfSize (65 * 2 ^ 24 + 256) rows.new }
+{
+    let mut odd = *rows;
+    part_rows(rows, &mut odd, 0);
+    part_rows(&odd, rows, 1);
+    part_rows(rows, &mut odd, 2);
+    part_rows(&odd, rows, 3);
+    part_rows(rows, &mut odd, 4);
+    part_rows(&odd, rows, 5);
 }
 
 /// The same as `up`, pair by pair without lanes. Takes no memory.
@@ -116,6 +131,47 @@ pub fn down_scalar(x: &[Cx; 64]) -> [Cx; 64]
     let mut sums = *x;
     down_in_place(&mut sums, 6);
     in_mirror_order(&sums)
+}
+
+// The same as `up`, in lanes of 64 bits.
+fn up_wide(x: &[Cx; 64]) -> [Cx; 64]
+    requires { PairsWithin (2 ^ 30) x.now }
+    ensures { result ≡ up_sums x.now }
+{
+    let mut sums = eights(&in_mirror_order(x));
+    up_eights(&mut sums, 3);
+    pairs(&sums)
+}
+
+// The same as `down`, in lanes of 64 bits.
+fn down_wide(x: &[Cx; 64]) -> [Cx; 64]
+    requires { PairsWithin (2 ^ 30) x.now }
+    ensures { result ≡ down_sums x.now }
+{
+    let mut sums = eights(x);
+    down_eights(&mut sums, 3);
+    in_mirror_order(&pairs(&sums))
+}
+
+// Whether all components are from -2^23 to 2^23 - 1, so that words hold the staged sums.
+fn are_small(x: &[Cx; 64]) -> bool
+    requires { PairsWithin (2 ^ 30) x.now }
+    ensures { result ≡ true → PairsOfSize (2 ^ 24) x.now }
+{
+    let mut bits = 0;
+    for n in 0..64 {
+        bits |= bits_of(x[n]);
+    }
+    bits < 1 << 24
+}
+
+// The bits of both components and 2^23, which are below 2^24 where both are from -2^23 to 2^23 - 1.
+#[inline(always)]
+fn bits_of(pair: Cx) -> u64
+    requires { IsWithin (2 ^ 30) pair }
+    ensures { result < 2 ^ 24 → IsWithin (2 ^ 23) pair }
+{
+    (pair.re + (1 << 23)).cast_unsigned() | (pair.im + (1 << 23)).cast_unsigned()
 }
 
 // The pairs in mirror order.

@@ -1,70 +1,22 @@
-use Rattle.std.proofs.Common.{◌+◌, ◌^◌, ◌∙◌, rules, arith}
+use Rattle.std.proofs.Common.{◌∙◌, ◌^◌, rules}
 use Rattle.fixed_complex.specs.PairLists.{entry}
-use Rattle.fixed_complex.proofs.PairLists.{is_by_place}
+use Rattle.fixed_complex.proofs.PairLists.{everywhere_of_size, is_by_place}
 use Rattle.butterfly64.specs.Rows.{place_in}
 use Rattle.butterfly64.specs.StagedSums.{down_at}
-use Rattle.butterfly64.proofs.PartStages.{lies-first, lies-last, parted_1, parted_2, parted_3, parted_4, parted_5, parted_6, sized-first, sized-next}
-use Rattle.butterfly64.proofs.RowPlaces.{rows_wider}
-use Rattle.butterfly64.proofs.StagedSizes.{grown_by}
+use Rattle.butterfly64.proofs.Halves.{down_at-local}
 use Rattle.butterfly64.proofs.SumSizes.{words-down_sums}
 use Rattle.butterfly64.proofs.down_words.Goals as goal
 
-pub part_rows-requires-clause-sizes : goal.part_rows-requires-clause-sizes
-part_rows-requires-clause-sizes c =
-    let z0 = sized-first c.args.x.now c.rows_of-even.result c.requires c.rows_of-even.ensures in
-    rows_wider (grown_by 0 (2 ^ 24)) (2 ^ 29 + 2 ^ 14) c.rows_of-even.result (omega arith) z0
-
-pub part_rows-requires-2-clause-sizes : goal.part_rows-requires-2-clause-sizes
-part_rows-requires-2-clause-sizes c =
-    let z0 = sized-first c.args.x.now c.rows_of-even.result c.requires c.rows_of-even.ensures in
-    let z1 = sized-next 0 (grown_by 0 (2 ^ 24)) c.rows_of-even.result c.part_rows.new.y (omega arith) z0 c.part_rows.ensures in
-    rows_wider (grown_by 1 (2 ^ 24)) (2 ^ 29 + 2 ^ 14) c.part_rows.new.y (omega arith) z1
-
-pub part_rows-requires-3-clause-sizes : goal.part_rows-requires-3-clause-sizes
-part_rows-requires-3-clause-sizes c =
-    let z0 = sized-first c.args.x.now c.rows_of-even.result c.requires c.rows_of-even.ensures in
-    let z1 = sized-next 0 (grown_by 0 (2 ^ 24)) c.rows_of-even.result c.part_rows.new.y (omega arith) z0 c.part_rows.ensures in
-    let z2 = sized-next 1 (grown_by 1 (2 ^ 24)) c.part_rows.new.y c.part_rows-2.new.y (omega arith) z1 c.part_rows-2.ensures in
-    rows_wider (grown_by 2 (2 ^ 24)) (2 ^ 29 + 2 ^ 14) c.part_rows-2.new.y (omega arith) z2
-
-pub part_rows-requires-4-clause-sizes : goal.part_rows-requires-4-clause-sizes
-part_rows-requires-4-clause-sizes c =
-    let z0 = sized-first c.args.x.now c.rows_of-even.result c.requires c.rows_of-even.ensures in
-    let z1 = sized-next 0 (grown_by 0 (2 ^ 24)) c.rows_of-even.result c.part_rows.new.y (omega arith) z0 c.part_rows.ensures in
-    let z2 = sized-next 1 (grown_by 1 (2 ^ 24)) c.part_rows.new.y c.part_rows-2.new.y (omega arith) z1 c.part_rows-2.ensures in
-    let z3 = sized-next 2 (grown_by 2 (2 ^ 24)) c.part_rows-2.new.y c.part_rows-3.new.y (omega arith) z2 c.part_rows-3.ensures in
-    rows_wider (grown_by 3 (2 ^ 24)) (2 ^ 29 + 2 ^ 14) c.part_rows-3.new.y (omega arith) z3
-
-pub part_rows-requires-5-clause-sizes : goal.part_rows-requires-5-clause-sizes
-part_rows-requires-5-clause-sizes c =
-    let z0 = sized-first c.args.x.now c.rows_of-even.result c.requires c.rows_of-even.ensures in
-    let z1 = sized-next 0 (grown_by 0 (2 ^ 24)) c.rows_of-even.result c.part_rows.new.y (omega arith) z0 c.part_rows.ensures in
-    let z2 = sized-next 1 (grown_by 1 (2 ^ 24)) c.part_rows.new.y c.part_rows-2.new.y (omega arith) z1 c.part_rows-2.ensures in
-    let z3 = sized-next 2 (grown_by 2 (2 ^ 24)) c.part_rows-2.new.y c.part_rows-3.new.y (omega arith) z2 c.part_rows-3.ensures in
-    let z4 = sized-next 3 (grown_by 3 (2 ^ 24)) c.part_rows-3.new.y c.part_rows-4.new.y (omega arith) z3 c.part_rows-4.ensures in
-    rows_wider (grown_by 4 (2 ^ 24)) (2 ^ 29 + 2 ^ 14) c.part_rows-4.new.y (omega arith) z4
-
-pub part_rows-requires-6-clause-sizes : goal.part_rows-requires-6-clause-sizes
-part_rows-requires-6-clause-sizes c =
-    let z0 = sized-first c.args.x.now c.rows_of-even.result c.requires c.rows_of-even.ensures in
-    let z1 = sized-next 0 (grown_by 0 (2 ^ 24)) c.rows_of-even.result c.part_rows.new.y (omega arith) z0 c.part_rows.ensures in
-    let z2 = sized-next 1 (grown_by 1 (2 ^ 24)) c.part_rows.new.y c.part_rows-2.new.y (omega arith) z1 c.part_rows-2.ensures in
-    let z3 = sized-next 2 (grown_by 2 (2 ^ 24)) c.part_rows-2.new.y c.part_rows-3.new.y (omega arith) z2 c.part_rows-3.ensures in
-    let z4 = sized-next 3 (grown_by 3 (2 ^ 24)) c.part_rows-3.new.y c.part_rows-4.new.y (omega arith) z3 c.part_rows-4.ensures in
-    let z5 = sized-next 4 (grown_by 4 (2 ^ 24)) c.part_rows-4.new.y c.part_rows-5.new.y (omega arith) z4 c.part_rows-5.ensures in
-    rows_wider (grown_by 5 (2 ^ 24)) (2 ^ 29 + 2 ^ 14) c.part_rows-5.new.y (omega arith) z5
+pub down_rows-requires : goal.down_rows-requires
+down_rows-requires c = record {
+  each = λ n lt. rw (c.rows_of-rows.ensures n lt) (everywhere_of_size (2 ^ 24) c.args.x.now c.requires n);
+}
 
 pub returns-clause-sums : goal.returns-clause-sums
 returns-clause-sums c =
     let x = entry c.args.x.now in
-    let s0 = lies-first x (place_in c.rows_of-even.result) c.rows_of-even.ensures in
-    let s1 = parted_1 x (place_in c.rows_of-even.result) (place_in c.part_rows.new.y) s0 c.part_rows.ensures in
-    let s2 = parted_2 x (place_in c.part_rows.new.y) (place_in c.part_rows-2.new.y) s1 c.part_rows-2.ensures in
-    let s3 = parted_3 x (place_in c.part_rows-2.new.y) (place_in c.part_rows-3.new.y) s2 c.part_rows-3.ensures in
-    let s4 = parted_4 x (place_in c.part_rows-3.new.y) (place_in c.part_rows-4.new.y) s3 c.part_rows-4.ensures in
-    let s5 = parted_5 x (place_in c.part_rows-4.new.y) (place_in c.part_rows-5.new.y) s4 c.part_rows-5.ensures in
-    let s6 = parted_6 x (place_in c.part_rows-5.new.y) (place_in c.part_rows-6.new.y) s5 c.part_rows-6.ensures in
-    is_by_place (down_at 6 x) c.row_pairs.result (search rules) (λ n lt. c.row_pairs.ensures n lt ∙ lies-last x (place_in c.part_rows-6.new.y) s6 n lt)
+    is_by_place (down_at 6 x) c.row_pairs.result (search rules)
+    (λ n lt. c.row_pairs.ensures n lt ∙ c.down_rows.ensures.sums n lt ∙ down_at-local 6 (place_in c.rows_of-rows.result) x (λ m below. c.rows_of-rows.ensures m below) n)
 
 pub returns-clause-within : goal.returns-clause-within
 returns-clause-within c = rw (returns-clause-sums c) (words-down_sums c.args.x.now c.requires)

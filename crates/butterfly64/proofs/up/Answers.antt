@@ -1,18 +1,14 @@
-use Rattle.std.proofs.Common.{rules}
 use Rattle.butterfly64.proofs.SumSizes.{size-up_sums, within-up_sums}
-use Rattle.fixed_complex.proofs.PairLists.{of_size-within}
-use Rattle.butterfly64.proofs.InPlace.{mirrored_sizes, up_of_mirrored}
 use Rattle.butterfly64.proofs.up.Goals as goal
 
-pub up_eights-requires-clause-sizes : goal.up_eights-requires-clause-sizes
-up_eights-requires-clause-sizes c =
-    rw c.eights-sums.ensures (mirrored_sizes c.args.x.now _ c.told-x (search rules) c.in_mirror_order.ensures (of_size-within c.args.x.now c.requires))
+pub returns-then-are_small-clause-sizes : goal.returns-then-are_small-clause-sizes
+returns-then-are_small-clause-sizes c = rw c.up_words.ensures.sums (size-up_sums c.args.x.now)
 
-pub returns-clause-sums : goal.returns-clause-sums
-returns-clause-sums c = up_of_mirrored c.args.x.now c.in_mirror_order.result c.pairs.result (search rules) c.in_mirror_order.ensures (record { each = rw c.pairs.ensures (rw c.eights-sums.ensures at c.up_eights.ensures) })
+pub returns-then-are_small-clause-within : goal.returns-then-are_small-clause-within
+returns-then-are_small-clause-within c = rw c.up_words.ensures.sums (within-up_sums c.args.x.now c.requires)
 
-pub returns-clause-sizes : goal.returns-clause-sizes
-returns-clause-sizes c = rw (returns-clause-sums c) (size-up_sums c.args.x.now)
+pub returns-else-are_small-clause-sizes : goal.returns-else-are_small-clause-sizes
+returns-else-are_small-clause-sizes c = rw c.up_wide.ensures (size-up_sums c.args.x.now)
 
-pub returns-clause-within : goal.returns-clause-within
-returns-clause-within c = rw (returns-clause-sums c) (within-up_sums c.args.x.now c.requires)
+pub returns-else-are_small-clause-within : goal.returns-else-are_small-clause-within
+returns-else-are_small-clause-within c = rw c.up_wide.ensures (within-up_sums c.args.x.now c.requires)

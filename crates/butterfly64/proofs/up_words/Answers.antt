@@ -9,14 +9,14 @@ use Rattle.butterfly64.proofs.up_words.Goals as goal
 
 pub up_rows-requires : goal.up_rows-requires
 up_rows-requires c = record {
-  each = λ n lt. rw (c.rows_of.ensures n lt) (everywhere_of_size (2 ^ 24) c.args.x.now c.requires n);
+  each = λ n lt. rw (c.rows_of-rows.ensures n lt) (everywhere_of_size (2 ^ 24) c.args.x.now c.requires n);
 }
 
 pub returns-clause-sums : goal.returns-clause-sums
 returns-clause-sums c =
     let x = entry c.args.x.now in
     is_by_place (up_at 6 x) c.row_pairs.result (search rules)
-    (λ n lt. c.row_pairs.ensures n lt ∙ c.up_rows.ensures.sums n lt ∙ up_at-local 6 (place_in c.rows_of.result) x (λ m below. c.rows_of.ensures m below) n)
+    (λ n lt. c.row_pairs.ensures n lt ∙ c.up_rows.ensures.sums n lt ∙ up_at-local 6 (place_in c.rows_of-rows.result) x (λ m below. c.rows_of-rows.ensures m below) n)
 
 pub returns-clause-within : goal.returns-clause-within
 returns-clause-within c = rw (returns-clause-sums c) (words-up_sums c.args.x.now c.requires)
