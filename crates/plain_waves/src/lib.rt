@@ -30,7 +30,8 @@ pub fn sent_samples(carriers: &[Cx; 64]) -> [Sample; 64]
     ensures near { AreNearPlain 1 result (all_times (plain_body (entry carriers.now))) }
     ensures within { SamplesWithin 25057 result }
 {
-    let sums = up_rows(&rows_of(&by_256(carriers)));
+    let mut sums = rows_of(&by_256(carriers));
+    up_rows(&mut sums);
     let mut samples = [SILENCE; 64];
     for r in 0..8 {
         put_samples(&mut samples, r, &sums[r]);

@@ -45,31 +45,31 @@ one_row_more f r old new so_far kept put n lt =
           subst (λ m. sample_at new m ≡ f m) here (put (n - 8 * r) (omega arith)))
     ]
 
-pub rows_of-requires : goal.rows_of-requires
-rows_of-requires c = record { each = λ n lt. within-size (2 ^ 31 - 1) _ (wider (2 ^ 24) (2 ^ 31 - 1) _ (omega arith) (c.by_256.ensures.sizes.each n lt)) }
+pub rows_of-sums-requires : goal.rows_of-sums-requires
+rows_of-sums-requires c = record { each = λ n lt. within-size (2 ^ 31 - 1) _ (wider (2 ^ 24) (2 ^ 31 - 1) _ (omega arith) (c.by_256.ensures.sizes.each n lt)) }
 
-pub up_rows-sums-requires : goal.up_rows-sums-requires
-up_rows-sums-requires c = record {
-  each = λ n lt. rw (c.rows_of.ensures n lt) (everywhere_of_size (2 ^ 24) c.by_256.result c.by_256.ensures.sizes n);
+pub up_rows-requires : goal.up_rows-requires
+up_rows-requires c = record {
+  each = λ n lt. rw (c.rows_of-sums.ensures n lt) (everywhere_of_size (2 ^ 24) c.by_256.result c.by_256.ensures.sizes n);
 }
 
 pub put_samples-requires-clause-words : goal.put_samples-requires-clause-words
-put_samples-requires-clause-words c = λ l lt. lane_within c.up_rows-sums.result c.loop-r.r l c.up_rows-sums.ensures.sizes c.loop-r-test.true lt
+put_samples-requires-clause-words c = λ l lt. lane_within c.up_rows.new.rows c.loop-r.r l c.up_rows.ensures.sizes c.loop-r-test.true lt
 
 pub put_samples-requires-clause-fits : goal.put_samples-requires-clause-fits
 put_samples-requires-clause-fits c = λ l lt.
     let xs = c.args.carriers.now in
     let r = c.loop-r.r in
     let below : 8 * r + l < 64 = omega arith in
-    let sent = sample_is xs c.by_256.result c.rows_of.result c.up_rows-sums.result c.rows_of.ensures c.up_rows-sums.ensures.sums c.by_256.ensures.carriers in
-    lane_fits xs c.up_rows-sums.result r l lt (sent (8 * r + l) below) (bounded xs c.requires.within c.requires.fits (8 * r + l) below)
+    let sent = sample_is xs c.by_256.result c.rows_of-sums.result c.up_rows.new.rows c.rows_of-sums.ensures c.up_rows.ensures.sums c.by_256.ensures.carriers in
+    lane_fits xs c.up_rows.new.rows r l lt (sent (8 * r + l) below) (bounded xs c.requires.within c.requires.fits (8 * r + l) below)
 
 pub loop-r-preserved : goal.loop-r-preserved
 loop-r-preserved c =
     let xs = c.args.carriers.now in
     let r = c.loop-r.r in
-    let sums = c.up_rows-sums.result in
-    let sent = sample_is xs c.by_256.result c.rows_of.result sums c.rows_of.ensures c.up_rows-sums.ensures.sums c.by_256.ensures.carriers in
+    let sums = c.up_rows.new.rows in
+    let sent = sample_is xs c.by_256.result c.rows_of-sums.result sums c.rows_of-sums.ensures c.up_rows.ensures.sums c.by_256.ensures.carriers in
     record {
       long = c.put_samples.array_long;
       done =
