@@ -12,5 +12,5 @@ loop-l-preserved c =
     record {
       re_long = rw length-set c.loop-l.invariant.re_long;
       im_long = rw length-set c.loop-l.invariant.im_long;
-      done = row_more c.args.x.now c.args.place c.loop-l.l (c.loop-l.l + 1) c.loop-l.row _ _ refl c.loop-l-test.true c.loop-l.invariant.re_long c.loop-l.invariant.im_long re im c.loop-l.invariant.done;
+      done = row_more (entry c.args.x.now) c.args.place c.loop-l.l (c.loop-l.l + 1) c.loop-l.row _ _ refl c.loop-l-test.true c.loop-l.invariant.re_long c.loop-l.invariant.im_long re im c.loop-l.invariant.done;
     }
