@@ -1,5 +1,5 @@
 -- Words in lanes: widened, narrowed, added, and turned.
-use Rattle.std.proofs.Common.{◌≡◌, inl, inr, true, false, ltb, ℕ, zero, suc, ◌+◌, ◌-◌, ◌^◌, ◌<◌, ◌≤◌, List, [], ◌∷◌, ◌++◌, map, length, get_or, w32, w64, to_z, of_z, refl, ap, ◌∙◌, arith}
+use Rattle.std.proofs.Common.{◌≡◌, inl, inr, true, false, ltb, ℕ, zero, suc, ◌+◌, ◌-◌, ◌*◌, ◌^◌, ◌<◌, ◌≤◌, List, [], ◌∷◌, ◌++◌, map, length, get_or, w32, w64, to_z, of_z, refl, ap, ◌∙◌, arith}
 use Rattle.std.specs.Prelude.{ℤ, pos, ◌+ℤ◌, ◌-ℤ◌, unsigned_abs, FitsSigned}
 use Rattle.std.specs.Simd.Lanes.{zip2, Each1, Each2}
 use Rattle.std.proofs.lemmas.Int.{ints, to_z-of_z}
@@ -182,6 +182,22 @@ shuffled ks a b place re im re_long im_long are bre aim bim re_is im_is at l lt 
     let second : number_at im l ≡ number_at (a.im ++ b.im) (place l) = ap (λ r. number_at r l) (im_is ∙ words_at ks a.im b.im aim bim) ∙ at (number_at (a.im ++ b.im)) l lt in
     let pair = two_places a b (place l) re_long im_long in
     (λ i. record { re = first i; im = second i }) ∙ pair
+
+-- every second word of two lists of eight, from word 0 or 1 on
+pub second_words : (ks : List ℕ) (a b words : List ℤ) (odd : ℕ) (f : ℕ → ℤ) → odd < 2 → length a ≡ 8 → NumbersWithin (2 ^ 31 - 1) a → NumbersWithin (2 ^ 31 - 1) b → words ≡ map (λ k. to_z w32 (get_or (bits a ++ bits b) k 0)) ks → ((g : ℕ → ℤ) (l : ℕ) → l < 8 → number_at (map g ks) l ≡ g (2 * l + odd))
+    → ((k : ℕ) → k < 4 → number_at a (2 * k + odd) ≡ f k) → ((k : ℕ) → k < 4 → number_at b (2 * k + odd) ≡ f (4 + k)) → (l : ℕ) → l < 8 → number_at words l ≡ f l
+second_words ks a b words odd f small long a_within b_within is at first last l lt =
+    ap (λ r. number_at r l) (is ∙ words_at ks a b a_within b_within) ∙ at (number_at (a ++ b)) l lt
+    ∙ elim (cases_lt l 4) [
+      | inl here ↦ get_or_append_left a b (pos 0) (2 * l + odd) (omega arith) ∙ first l here
+      | inr past ↦
+          let behind : 2 * l + odd - 8 ≡ 2 * (l - 4) + odd = omega arith in
+          let place : 4 + (l - 4) ≡ l = omega arith in
+          get_or-append_right a b 8 (2 * l + odd) (pos 0) long (omega arith)
+          ∙ ap (number_at b) behind
+          ∙ last (l - 4) (omega arith)
+          ∙ ap f place
+    ]
 
 -- ---- turned back
 pub record AreTurnedBack (turns x : Row) (turned : Eight) : Type 0 where

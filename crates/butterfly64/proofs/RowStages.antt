@@ -1,8 +1,12 @@
 -- A stage over rows: its turns, the places that it reads, and what its loop has done.
 use Rattle.std.proofs.Common.{◌≡◌, ◌≢◌, inl, inr, ℕ, ◌+◌, ◌-◌, ◌*◌, ◌/◌, ◌%◌, ◌^◌, ◌<◌, List, length, set, true, ltb, refl, ap, ◌∙◌, arith, get_or-set_other, get_or-set_same, length-set}
 use Rattle.std.proofs.lemmas.Bool.{cases_lt, ltb-true, agree_below_at, agree_below}
+use Rattle.std.specs.Prelude.{ℤ, pos, ◌+ℤ◌, ◌-ℤ◌, ◌*ℤ◌}
+use Rattle.std.proofs.lemmas.Int.{ints}
+use Rattle.integer_laws.proofs.FloorDivision.{floor_div-add_multiple}
 use Rattle.fixed_complex.specs.declared.Cx.{Cx}
-use Rattle.fixed_complex.specs.Pairs.{conjugate, minus, plus, scaled_product}
+use Rattle.fixed_complex.specs.Pairs.{conjugate, minus, plus, scaled_product, times}
+use Rattle.fixed_complex.specs.Rounding.{half_up}
 use Rattle.fixed_complex.specs.Turns.{turn_at}
 use Rattle.fixed_complex.proofs.ByTable.{same_pairs, are_same}
 use Rattle.fixed_complex.proofs.TurnLaws.{turn-size, turn-within}
@@ -120,6 +124,22 @@ row_of_part_turns t p t_below p_below = record {
   within = λ l lt. rw (part_turn_in_row t p l t_below p_below lt) (turn-within (2 ^ (5 - (5 - t)) * ((8 * p + l) % apart t)));
   size = λ l lt. rw (part_turn_in_row t p l t_below p_below lt) (turn-size (2 ^ (5 - (5 - t)) * ((8 * p + l) % apart t)));
 }
+
+-- the turn by nothing
+unturned_part : (a whole : ℤ) → whole ≡ a *ℤ pos 1048576 → half_up 20 whole ≡ a
+unturned_part a whole is =
+    let sum : whole +ℤ pos 524288 ≡ pos 524288 +ℤ a *ℤ pos 1048576 = omega (arith, ints) in
+    rw sum (floor_div-add_multiple (pos 524288) a 1048576 (omega arith) ∙ omega (arith, ints))
+
+pub unturned : (z : Cx) → scaled_product (conjugate (turn_at 0)) z ≡ z
+unfolding scaled_product times turn_at
+unturned z = λ i. record { re = re i; im = im i }
+  where
+    re : half_up 20 (pos 1048576 *ℤ z.re -ℤ pos 0 *ℤ z.im) ≡ z.re
+    re = unturned_part z.re (pos 1048576 *ℤ z.re -ℤ pos 0 *ℤ z.im) (omega (arith, ints))
+
+    im : half_up 20 (pos 1048576 *ℤ z.im +ℤ pos 0 *ℤ z.re) ≡ z.im
+    im = unturned_part z.im (pos 1048576 *ℤ z.im +ℤ pos 0 *ℤ z.re) (omega (arith, ints))
 
 -- what a stage gives for a place and for the one 32 further
 abbrev pub sum_at : ℕ → (ℕ → Cx) → ℕ → Cx

@@ -37,16 +37,15 @@ pub(crate) fn joined_row(even: &Row, odd: &Row, turns: &Row) -> (Row, Row)
     (sums, differences)
 }
 
-// The sums of eight and eight pairs, and their differences turned back.
+// The sums and the differences of eight and eight pairs.
 #[inline(always)]
-pub(crate) fn parted_row(first: &Row, last: &Row, turns: &Row) -> (Row, Row)
+pub(crate) fn parted_row(first: &Row, last: &Row) -> (Row, Row)
     requires first { RowOfSize (2 ^ 29 + 2 ^ 14) first.now }
     requires last { RowOfSize (2 ^ 29 + 2 ^ 14) last.now }
-    requires turns { RowOfTurns turns.now }
     ensures sums { (l : ℕ) → l < 8 → row_lane result.0 l ≡ plus (row_lane first.now l) (row_lane last.now l) }
-    ensures differences { (l : ℕ) → l < 8 → row_lane result.1 l
-        ≡ scaled_product (conjugate (row_lane turns.now l))
-        (minus (row_lane first.now l) (row_lane last.now l)) }
+    ensures differences { (l : ℕ) → l < 8
+        → row_lane result.1 l ≡ minus (row_lane first.now l) (row_lane last.now l) }
+    ensures size { RowOfSize (2 ^ 30 + 2 ^ 15) result.1 }
 {
     let sums = Row {
         re: word_sums(first.re, last.re),
@@ -56,12 +55,12 @@ pub(crate) fn parted_row(first: &Row, last: &Row, turns: &Row) -> (Row, Row)
         re: word_differences(first.re, last.re),
         im: word_differences(first.im, last.im),
     };
-    (sums, turned_back_row(turns, &differences))
+    (sums, differences)
 }
 
 // The products of eight pairs with the conjugates of eight turns, over 2^20, rounded half up.
 #[inline(always)]
-fn turned_back_row(turns: &Row, x: &Row) -> Row
+pub(crate) fn turned_back_row(turns: &Row, x: &Row) -> Row
     requires turns { RowOfTurns turns.now }
     requires x { RowOfSize (2 ^ 30 + 2 ^ 15) x.now }
     ensures { (l : ℕ) → l < 8
@@ -120,7 +119,7 @@ fn widened(x: [i32; 8]) -> [i64; 8]
 
 // Eight numbers that are words.
 #[inline(always)]
-fn narrowed(x: [i64; 8]) -> [i32; 8]
+pub(crate) fn narrowed(x: [i64; 8]) -> [i32; 8]
     requires { NumbersWithin (2 ^ 31 - 1) x }
     ensures { result ≡ x }
 {

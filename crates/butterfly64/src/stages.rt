@@ -1,10 +1,13 @@
 //! The six stages of `up` and of `down` over eight rows of words.
-ghost use Rattle.std.specs.Prelude.{◌≡◌, ℕ, ◌+◌, ◌-◌, ◌*◌, ◌/◌, ◌^◌, ◌<◌, ◌≤◌, unsigned_abs};
+ghost use Rattle.std.specs.Prelude.{◌≡◌, ℕ, ◌+◌, ◌-◌, ◌*◌, ◌/◌, ◌%◌, ◌^◌, ◌<◌, ◌≤◌};
+ghost use Rattle.fixed_complex.specs.Numbers.{NumbersWithin, number_at};
 ghost use Rattle.fixed_complex.specs.PairLists.{PairsWithin, entry};
+ghost use Rattle.fixed_complex.specs.Pairs.{conjugate, scaled_product};
+ghost use Rattle.butterfly64.specs.StagedSums.{stage_turn};
 ghost use Rattle.butterfly64.specs.Rows.{IsJoined, IsParted, RowOfSize, RowsOfSize, apart, first_read, place_in, place_of_two, row_lane};
 
 use crate::row_turns::{PART_TURNS, ROW_TURNS};
-use crate::rows::{Row, joined_row, parted_row};
+use crate::rows::{Row, joined_row, narrowed, parted_row, turned_back_row};
 use fixed_complex::Cx;
 use std::simd::prelude::*;
 
@@ -32,9 +35,25 @@ pub(crate) fn part_rows(x: &[Row; 8], y: &mut [Row; 8], stage: usize)
 {
     for p in 0..4 {
         let (first, last) = read_rows(x, stage, p);
-        let (sums, differences) = parted_row(&first, &last, &PART_TURNS[4 * stage + p]);
+        let (sums, differences) = parted_row(&first, &last);
         y[p] = sums;
-        y[p + 4] = differences;
+        y[p + 4] = turned_back(&differences, stage, p);
+    }
+}
+
+// What a stage of `down` puts to places 32 + 8p to 32 + 8p + 7: eight differences, turned back. The last stage turns nothing.
+#[inline(always)]
+fn turned_back(differences: &Row, stage: usize, p: usize) -> Row
+    requires stage { stage < 6 }
+    requires p { p < 4 }
+    requires size { RowOfSize (2 ^ 30 + 2 ^ 15) differences.now }
+    ensures { (l : ℕ) → l < 8 → row_lane result l
+        ≡ scaled_product (conjugate (stage_turn (5 - stage) ((8 * p + l) % apart stage))) (row_lane differences.now l) }
+{
+    if stage == 5 {
+        *differences
+    } else {
+        turned_back_row(&PART_TURNS[4 * stage + p], differences)
     }
 }
 
@@ -147,23 +166,33 @@ fn row_from(x: &[Cx; 64], place: usize) -> Row
     requires words { PairsWithin (2 ^ 31 - 1) x.now }
     ensures { (l : ℕ) → l < 8 → row_lane result l ≡ entry x.now (place + l) }
 {
-    let mut row = Row {
-        re: [0; 8],
-        im: [0; 8],
-    };
-    for l in 0..8 {
-        row.re[l] = word(x[place + l].re);
-        row.im[l] = word(x[place + l].im);
+    let low = i32x8::from_array(narrowed(components(x, place)));
+    let high = i32x8::from_array(narrowed(components(x, place + 4)));
+    Row {
+        re: low.shuffle(high, [0, 2, 4, 6, 8, 10, 12, 14]).to_array(),
+        im: low.shuffle(high, [1, 3, 5, 7, 9, 11, 13, 15]).to_array(),
     }
-    row
 }
 
-// A number as a word.
-fn word(number: i64) -> i32
-    requires { unsigned_abs number ≤ 2 ^ 31 - 1 }
-    ensures { result ≡ number }
+// The components of the four pairs from a place on, as they lie in memory.
+#[inline(always)]
+fn components(x: &[Cx; 64], place: usize) -> [i64; 8]
+    requires place { place + 4 ≤ 64 }
+    requires words { PairsWithin (2 ^ 31 - 1) x.now }
+    ensures re { (k : ℕ) → k < 4 → number_at result (2 * k) ≡ (entry x.now (place + k)).re }
+    ensures im { (k : ℕ) → k < 4 → number_at result (2 * k + 1) ≡ (entry x.now (place + k)).im }
+    ensures within { NumbersWithin (2 ^ 31 - 1) result }
 {
-    number as i32
+    [
+        x[place].re,
+        x[place].im,
+        x[place + 1].re,
+        x[place + 1].im,
+        x[place + 2].re,
+        x[place + 2].im,
+        x[place + 3].re,
+        x[place + 3].im,
+    ]
 }
 
 // The pairs of eight rows.

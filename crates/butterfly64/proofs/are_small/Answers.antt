@@ -15,4 +15,4 @@ loop-n-preserved c = λ below k lt. elim (cases_lt k c.loop-n.n) [
 pub returns : goal.returns
 returns c = λ below.
     let each = c.loop-n.invariant (grind arith) in
-    record { each = λ n lt. size_by_parts (2 ^ 23) (2 ^ 24) _ (omega arith) (each n (grind arith)); }
+    record { each = λ n lt. size_by_parts (2 ^ 23) (2 ^ 24) _ (omega arith) (each n (grind arith)) }

@@ -1,6 +1,5 @@
-use Rattle.std.proofs.Common.{◌+◌, ap, ◌∙◌, ◌-◌, ◌^◌, rules, arith}
+use Rattle.std.proofs.Common.{ℕ, ◌+◌, ◌-◌, ◌^◌, ◌<◌, rules, arith}
 use Rattle.butterfly64.proofs.RowLanes.{difference-size, plain-difference, plain-sum, row-re, row-im}
-use Rattle.fixed_complex.specs.Pairs.{conjugate, scaled_product}
 use Rattle.butterfly64.specs.Rows.{row_lane}
 use Rattle.butterfly64.proofs.rows.parted_row.Goals as goal
 
@@ -28,17 +27,11 @@ word_differences-requires-clause-y c = row-re (2 ^ 29 + 2 ^ 14) (2 ^ 30 - 1) c.a
 pub word_differences-requires-2-clause-y : goal.word_differences-requires-2-clause-y
 word_differences-requires-2-clause-y c = row-im (2 ^ 29 + 2 ^ 14) (2 ^ 30 - 1) c.args.last.now (search rules) (omega arith) c.requires.last
 
-pub turned_back_row-requires-clause-x : goal.turned_back_row-requires-clause-x
-turned_back_row-requires-clause-x c = record {
-  each = λ l lt.
-      let is = plain-difference (row_lane c.args.first.now l) (row_lane c.args.last.now l) _ _ (c.word_differences.ensures l lt) (c.word_differences-2.ensures l lt) in
-      difference-size (row_lane c.args.first.now l) (row_lane c.args.last.now l) _ is (c.requires.first.each l lt) (c.requires.last.each l lt);
-}
-
 pub returns : goal.returns
-returns c = record {
-  sums = λ l lt. plain-sum (row_lane c.args.first.now l) (row_lane c.args.last.now l) _ _ (c.word_sums.ensures l lt) (c.word_sums-2.ensures l lt);
-  differences = λ l lt.
-      let is = plain-difference (row_lane c.args.first.now l) (row_lane c.args.last.now l) _ _ (c.word_differences.ensures l lt) (c.word_differences-2.ensures l lt) in
-      c.turned_back_row.ensures l lt ∙ ap (scaled_product (conjugate (row_lane c.args.turns.now l))) is;
-}
+returns c =
+    let difference = λ (l : ℕ) (lt : l < 8). plain-difference (row_lane c.args.first.now l) (row_lane c.args.last.now l) _ _ (c.word_differences.ensures l lt) (c.word_differences-2.ensures l lt) in
+    record {
+      sums = λ l lt. plain-sum (row_lane c.args.first.now l) (row_lane c.args.last.now l) _ _ (c.word_sums.ensures l lt) (c.word_sums-2.ensures l lt);
+      differences = difference;
+      size = record { each = λ l lt. difference-size (row_lane c.args.first.now l) (row_lane c.args.last.now l) _ (difference l lt) (c.requires.first.each l lt) (c.requires.last.each l lt); };
+    }

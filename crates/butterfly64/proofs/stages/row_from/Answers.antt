@@ -1,16 +1,28 @@
-use Rattle.std.proofs.Common.{◌≡◌, ◌+◌, w32, to_z, of_z, refl, length-set, arith}
-use Rattle.std.proofs.lemmas.Int.{ints}
+use Rattle.std.proofs.Common.{◌≡◌, ℕ, ◌+◌, ◌-◌, ◌*◌, ◌^◌, ◌∙◌, List, [], ◌∷◌, map, refl, ap, sym, subst, rules, arith}
+use Rattle.fixed_complex.specs.Numbers.{NumbersWithin, number_at}
 use Rattle.fixed_complex.specs.PairLists.{entry}
-use Rattle.butterfly64.proofs.RowPlaces.{row_more}
+use Rattle.butterfly64.proofs.EightLanes.{at_eight}
+use Rattle.butterfly64.proofs.RowLanes.{second_words}
 use Rattle.butterfly64.proofs.stages.row_from.Goals as goal
 
-pub loop-l-preserved : goal.loop-l-preserved
-loop-l-preserved c =
-    let within = c.requires.words.each (c.args.place + c.loop-l.l) (omega arith) in
-    let re : to_z w32 (of_z w32 c.word.result) ≡ (entry c.args.x.now (c.args.place + c.loop-l.l)).re = omega (arith, ints, within.re) in
-    let im : to_z w32 (of_z w32 c.word-in-loop-l.result) ≡ (entry c.args.x.now (c.args.place + c.loop-l.l)).im = omega (arith, ints, within.im) in
-    record {
-      re_long = rw length-set c.loop-l.invariant.re_long;
-      im_long = rw length-set c.loop-l.invariant.im_long;
-      done = row_more (entry c.args.x.now) c.args.place c.loop-l.l (c.loop-l.l + 1) c.loop-l.row _ _ refl c.loop-l-test.true c.loop-l.invariant.re_long c.loop-l.invariant.im_long re im c.loop-l.invariant.done;
-    }
+pub returns : goal.returns
+returns c = λ l lt.
+    let x = c.args.x.now in
+    let place = c.args.place in
+    let low = c.narrowed-low.result in
+    let high = c.narrowed-high.result in
+    let low_is = c.narrowed-low.ensures in
+    let high_is = c.narrowed-high.ensures in
+    let low_within = subst (NumbersWithin (2 ^ 31 - 1)) (sym low_is) c.components.ensures.within in
+    let high_within = subst (NumbersWithin (2 ^ 31 - 1)) (sym high_is) c.components-2.ensures.within in
+    let evens : List ℕ = 0 ∷ 2 ∷ 4 ∷ 6 ∷ 8 ∷ 10 ∷ 12 ∷ 14 ∷ [] in
+    let odds : List ℕ = 1 ∷ 3 ∷ 5 ∷ 7 ∷ 9 ∷ 11 ∷ 13 ∷ 15 ∷ [] in
+    let even : (k : ℕ) → 2 * k + 0 ≡ 2 * k = λ k. omega arith in
+    let later : (k : ℕ) → entry x (place + 4 + k) ≡ entry x (place + (4 + k)) = λ k. let e : place + 4 + k ≡ place + (4 + k) = omega arith in ap (entry x) e in
+    let re = second_words evens low high _ 0 (λ k. (entry x (place + k)).re) (omega arith) (search rules) low_within high_within refl (λ g. at_eight (λ l. number_at (map g evens) l ≡ g (2 * l + 0)) refl refl refl refl refl refl refl refl)
+    (λ k lt. ap (number_at low) (even k) ∙ ap (λ r. number_at r (2 * k)) low_is ∙ c.components.ensures.re k lt)
+    (λ k lt. ap (number_at high) (even k) ∙ ap (λ r. number_at r (2 * k)) high_is ∙ c.components-2.ensures.re k lt ∙ ap (λ z. z.re) (later k)) l lt in
+    let im = second_words odds low high _ 1 (λ k. (entry x (place + k)).im) (omega arith) (search rules) low_within high_within refl (λ g. at_eight (λ l. number_at (map g odds) l ≡ g (2 * l + 1)) refl refl refl refl refl refl refl refl)
+    (λ k lt. ap (λ r. number_at r (2 * k + 1)) low_is ∙ c.components.ensures.im k lt)
+    (λ k lt. ap (λ r. number_at r (2 * k + 1)) high_is ∙ c.components-2.ensures.im k lt ∙ ap (λ z. z.im) (later k)) l lt in
+    λ i. record { re = re i; im = im i }
