@@ -1,5 +1,5 @@
 -- Words in lanes: widened, narrowed, added, and turned.
-use Rattle.std.proofs.Common.{◌≡◌, inl, inr, true, false, ltb, ℕ, zero, suc, ◌+◌, ◌-◌, ◌*◌, ◌^◌, ◌<◌, ◌≤◌, List, [], ◌∷◌, ◌++◌, map, length, get_or, w32, w64, to_z, of_z, refl, ap, ◌∙◌, arith}
+use Rattle.std.proofs.Common.{◌≡◌, inl, inr, true, false, ltb, ℕ, zero, suc, ◌+◌, ◌-◌, ◌*◌, ◌%◌, ◌^◌, ◌<◌, ◌≤◌, List, [], ◌∷◌, ◌++◌, map, length, get_or, w32, w64, to_z, of_z, refl, ap, ◌∙◌, arith}
 use Rattle.std.specs.Prelude.{ℤ, pos, ◌+ℤ◌, ◌-ℤ◌, unsigned_abs, FitsSigned}
 use Rattle.std.specs.Simd.Lanes.{zip2, Each1, Each2}
 use Rattle.std.proofs.lemmas.Int.{ints, to_z-of_z}
@@ -14,6 +14,7 @@ use Rattle.fixed_complex.specs.declared.Cx.{Cx}
 use Rattle.fixed_complex.specs.Pairs.{IsOfSize, IsWithin, conjugate, minus, plus, scaled_product}
 use Rattle.fixed_complex.proofs.Numbers.{within_eight}
 use Rattle.fixed_complex.proofs.PairSizes.{size-conjugate, size-minus, size-scaled_product, wider, within-size}
+use Rattle.butterfly64.proofs.EightLanes.{at_eight}
 use Rattle.butterfly64.specs.declared.lanes.Eight.{Eight}
 use Rattle.butterfly64.specs.declared.rows.Row.{Row}
 use Rattle.butterfly64.specs.Lanes.{lane}
@@ -198,6 +199,29 @@ second_words ks a b words odd f small long a_within b_within is at first last l 
           ∙ last (l - 4) (omega arith)
           ∙ ap f place
     ]
+
+-- each other word of two lists of eight, from the first list and from the second in turn
+abbrev in_turn : List ℕ
+in_turn = 0 ∷ 9 ∷ 2 ∷ 11 ∷ 4 ∷ 13 ∷ 6 ∷ 15 ∷ []
+
+word_in_turn : (a b words : List ℤ) → NumbersWithin (2 ^ 31 - 1) a → NumbersWithin (2 ^ 31 - 1) b → words ≡ map (λ k. to_z w32 (get_or (bits a ++ bits b) k 0)) in_turn → (l : ℕ) → l < 8 → number_at words l ≡ number_at (a ++ b) (l + 8 * (l % 2))
+word_in_turn a b words a_within b_within is l lt =
+    let g = number_at (a ++ b) in
+    ap (λ r. number_at r l) (is ∙ words_at in_turn a b a_within b_within) ∙ at_eight (λ l. number_at (map g in_turn) l ≡ g (l + 8 * (l % 2))) refl refl refl refl refl refl refl refl l lt
+
+pub even_word : (a b words : List ℤ) → length a ≡ 8 → NumbersWithin (2 ^ 31 - 1) a → NumbersWithin (2 ^ 31 - 1) b → words ≡ map (λ k. to_z w32 (get_or (bits a ++ bits b) k 0)) in_turn → (l : ℕ) → l < 8 → l % 2 ≡ 0 → number_at words l ≡ number_at a l
+even_word a b words long a_within b_within is l lt even =
+    let at : l + 8 * (l % 2) ≡ l = omega arith in
+    word_in_turn a b words a_within b_within is l lt ∙ ap (number_at (a ++ b)) at ∙ get_or_append_left a b (pos 0) l (omega arith)
+
+pub odd_word : (a b words : List ℤ) → length a ≡ 8 → NumbersWithin (2 ^ 31 - 1) a → NumbersWithin (2 ^ 31 - 1) b → words ≡ map (λ k. to_z w32 (get_or (bits a ++ bits b) k 0)) in_turn → (l : ℕ) → l < 8 → l % 2 ≡ 1 → number_at words l ≡ number_at b l
+odd_word a b words long a_within b_within is l lt odd =
+    let at : l + 8 * (l % 2) - 8 ≡ l = omega arith in
+    word_in_turn a b words a_within b_within is l lt ∙ get_or-append_right a b 8 (l + 8 * (l % 2)) (pos 0) long (omega arith) ∙ ap (number_at b) at
+
+-- differences are words
+pub differences-within : (x y d : List ℤ) → length d ≡ 8 → NumbersWithin (2 ^ 30 - 1) x → NumbersWithin (2 ^ 30 - 1) y → ((l : ℕ) → l < 8 → number_at d l ≡ number_at x l -ℤ number_at y l) → NumbersWithin (2 ^ 31 - 1) d
+differences-within x y d long h k is = within_eight (2 ^ 31 - 1) d long (λ l lt. let first = h l in let second = k l in rw (is l lt) (omega (arith, ints)))
 
 -- ---- turned back
 pub record AreTurnedBack (turns x : Row) (turned : Eight) : Type 0 where

@@ -1,7 +1,7 @@
 -- A stage over rows: its turns, the places that it reads, and what its loop has done.
 use Rattle.std.proofs.Common.{◌≡◌, ◌≢◌, inl, inr, ℕ, ◌+◌, ◌-◌, ◌*◌, ◌/◌, ◌%◌, ◌^◌, ◌<◌, List, length, set, true, ltb, refl, ap, ◌∙◌, arith, get_or-set_other, get_or-set_same, length-set}
 use Rattle.std.proofs.lemmas.Bool.{cases_lt, ltb-true, agree_below_at, agree_below}
-use Rattle.std.specs.Prelude.{ℤ, pos, ◌+ℤ◌, ◌-ℤ◌, ◌*ℤ◌}
+use Rattle.std.specs.Prelude.{ℤ, pos, neg_ℤ, ◌+ℤ◌, ◌-ℤ◌, ◌*ℤ◌}
 use Rattle.std.proofs.lemmas.Int.{ints}
 use Rattle.integer_laws.proofs.FloorDivision.{floor_div-add_multiple}
 use Rattle.fixed_complex.specs.declared.Cx.{Cx}
@@ -140,6 +140,17 @@ unturned z = λ i. record { re = re i; im = im i }
 
     im : half_up 20 (pos 1048576 *ℤ z.im +ℤ pos 0 *ℤ z.re) ≡ z.im
     im = unturned_part z.im (pos 1048576 *ℤ z.im +ℤ pos 0 *ℤ z.re) (omega (arith, ints))
+
+-- the turn back by a quarter
+pub quarter_back : (z : Cx) → let back : Cx = record { re = z.im; im = neg_ℤ z.re } in scaled_product (conjugate (turn_at 16)) z ≡ back
+unfolding scaled_product times turn_at
+quarter_back z = λ i. record { re = re i; im = im i }
+  where
+    re : half_up 20 (pos 0 *ℤ z.re -ℤ neg_ℤ (pos 1048576) *ℤ z.im) ≡ z.im
+    re = unturned_part z.im (pos 0 *ℤ z.re -ℤ neg_ℤ (pos 1048576) *ℤ z.im) (omega (arith, ints))
+
+    im : half_up 20 (pos 0 *ℤ z.im +ℤ neg_ℤ (pos 1048576) *ℤ z.re) ≡ neg_ℤ z.re
+    im = unturned_part (neg_ℤ z.re) (pos 0 *ℤ z.im +ℤ neg_ℤ (pos 1048576) *ℤ z.re) (omega (arith, ints))
 
 -- what a stage gives for a place and for the one 32 further
 abbrev pub sum_at : ℕ → (ℕ → Cx) → ℕ → Cx

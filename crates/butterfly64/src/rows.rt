@@ -1,6 +1,7 @@
 //! Eight pairs of 32-bit words in lanes.
-ghost use Rattle.std.specs.Prelude.{◌≡◌, ℕ, ◌+◌, ◌-◌, ◌^◌, ◌<◌, length, ◌+ℤ◌, ◌-ℤ◌};
+ghost use Rattle.std.specs.Prelude.{◌≡◌, ℕ, ◌+◌, ◌-◌, ◌*◌, ◌%◌, ◌^◌, ◌<◌, length, ◌+ℤ◌, ◌-ℤ◌};
 ghost use Rattle.fixed_complex.specs.Pairs.{conjugate, minus, plus, scaled_product};
+ghost use Rattle.fixed_complex.specs.Turns.{turn_at};
 ghost use Rattle.fixed_complex.specs.Numbers.{NumbersWithin, number_at};
 ghost use Rattle.butterfly64.specs.Rows.{RowOfSize, RowOfTurns, row_lane};
 
@@ -37,25 +38,48 @@ pub(crate) fn joined_row(even: &Row, odd: &Row, turns: &Row) -> (Row, Row)
     (sums, differences)
 }
 
-// The sums and the differences of eight and eight pairs.
+// The sums of eight and eight pairs.
 #[inline(always)]
-pub(crate) fn parted_row(first: &Row, last: &Row) -> (Row, Row)
-    requires first { RowOfSize (2 ^ 29 + 2 ^ 14) first.now }
-    requires last { RowOfSize (2 ^ 29 + 2 ^ 14) last.now }
-    ensures sums { (l : ℕ) → l < 8 → row_lane result.0 l ≡ plus (row_lane first.now l) (row_lane last.now l) }
-    ensures differences { (l : ℕ) → l < 8
-        → row_lane result.1 l ≡ minus (row_lane first.now l) (row_lane last.now l) }
-    ensures size { RowOfSize (2 ^ 30 + 2 ^ 15) result.1 }
+pub(crate) fn sum_row(x: &Row, y: &Row) -> Row
+    requires x { RowOfSize (2 ^ 29 + 2 ^ 14) x.now }
+    requires y { RowOfSize (2 ^ 29 + 2 ^ 14) y.now }
+    ensures { (l : ℕ) → l < 8 → row_lane result l ≡ plus (row_lane x.now l) (row_lane y.now l) }
 {
-    let sums = Row {
-        re: word_sums(first.re, last.re),
-        im: word_sums(first.im, last.im),
-    };
-    let differences = Row {
-        re: word_differences(first.re, last.re),
-        im: word_differences(first.im, last.im),
-    };
-    (sums, differences)
+    Row {
+        re: word_sums(x.re, y.re),
+        im: word_sums(x.im, y.im),
+    }
+}
+
+// The differences of eight and eight pairs.
+#[inline(always)]
+pub(crate) fn difference_row(x: &Row, y: &Row) -> Row
+    requires x { RowOfSize (2 ^ 29 + 2 ^ 14) x.now }
+    requires y { RowOfSize (2 ^ 29 + 2 ^ 14) y.now }
+    ensures value { (l : ℕ) → l < 8 → row_lane result l ≡ minus (row_lane x.now l) (row_lane y.now l) }
+    ensures size { RowOfSize (2 ^ 30 + 2 ^ 15) result }
+{
+    Row {
+        re: word_differences(x.re, y.re),
+        im: word_differences(x.im, y.im),
+    }
+}
+
+// The differences of eight and eight pairs, each other one turned back by a quarter, beginning with the second.
+#[inline(always)]
+pub(crate) fn quartered_difference_row(x: &Row, y: &Row) -> Row
+    requires x { RowOfSize (2 ^ 29 + 2 ^ 14) x.now }
+    requires y { RowOfSize (2 ^ 29 + 2 ^ 14) y.now }
+    ensures { (l : ℕ) → l < 8 → row_lane result l
+        ≡ scaled_product (conjugate (turn_at (16 * (l % 2)))) (minus (row_lane x.now l) (row_lane y.now l)) }
+{
+    let re = i32x8::from_array(word_differences(x.re, y.re));
+    let im = i32x8::from_array(word_differences(x.im, y.im));
+    let negative_re = i32x8::from_array(word_differences(y.re, x.re));
+    Row {
+        re: re.shuffle(im, [0, 9, 2, 11, 4, 13, 6, 15]).to_array(),
+        im: im.shuffle(negative_re, [0, 9, 2, 11, 4, 13, 6, 15]).to_array(),
+    }
 }
 
 // The products of eight pairs with the conjugates of eight turns, over 2^20, rounded half up.

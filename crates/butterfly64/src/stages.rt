@@ -2,12 +2,12 @@
 ghost use Rattle.std.specs.Prelude.{◌≡◌, ℕ, ◌+◌, ◌-◌, ◌*◌, ◌/◌, ◌%◌, ◌^◌, ◌<◌, ◌≤◌};
 ghost use Rattle.fixed_complex.specs.Numbers.{NumbersWithin, number_at};
 ghost use Rattle.fixed_complex.specs.PairLists.{PairsWithin, entry};
-ghost use Rattle.fixed_complex.specs.Pairs.{conjugate, scaled_product};
+ghost use Rattle.fixed_complex.specs.Pairs.{conjugate, minus, scaled_product};
 ghost use Rattle.butterfly64.specs.StagedSums.{stage_turn};
 ghost use Rattle.butterfly64.specs.Rows.{IsJoined, IsParted, RowOfSize, RowsOfSize, apart, first_read, place_in, place_of_two, row_lane};
 
 use crate::row_turns::{PART_TURNS, ROW_TURNS};
-use crate::rows::{Row, joined_row, narrowed, parted_row, turned_back_row};
+use crate::rows::{Row, difference_row, joined_row, narrowed, quartered_difference_row, sum_row, turned_back_row};
 use fixed_complex::Cx;
 use std::simd::prelude::*;
 
@@ -35,25 +35,27 @@ pub(crate) fn part_rows(x: &[Row; 8], y: &mut [Row; 8], stage: usize)
 {
     for p in 0..4 {
         let (first, last) = read_rows(x, stage, p);
-        let (sums, differences) = parted_row(&first, &last);
-        y[p] = sums;
-        y[p + 4] = turned_back(&differences, stage, p);
+        y[p] = sum_row(&first, &last);
+        y[p + 4] = turned_differences(&first, &last, stage, p);
     }
 }
 
-// What a stage of `down` puts to places 32 + 8p to 32 + 8p + 7: eight differences, turned back. The last stage turns nothing.
+// The differences that a stage of `down` puts to places 32 + 8p to 32 + 8p + 7, turned back. The last stage turns none of them,
+// and the one before it each other one by a quarter.
 #[inline(always)]
-fn turned_back(differences: &Row, stage: usize, p: usize) -> Row
+fn turned_differences(first: &Row, last: &Row, stage: usize, p: usize) -> Row
+    requires first { RowOfSize (2 ^ 29 + 2 ^ 14) first.now }
+    requires last { RowOfSize (2 ^ 29 + 2 ^ 14) last.now }
     requires stage { stage < 6 }
     requires p { p < 4 }
-    requires size { RowOfSize (2 ^ 30 + 2 ^ 15) differences.now }
     ensures { (l : ℕ) → l < 8 → row_lane result l
-        ≡ scaled_product (conjugate (stage_turn (5 - stage) ((8 * p + l) % apart stage))) (row_lane differences.now l) }
+        ≡ scaled_product (conjugate (stage_turn (5 - stage) ((8 * p + l) % apart stage)))
+        (minus (row_lane first.now l) (row_lane last.now l)) }
 {
-    if stage == 5 {
-        *differences
-    } else {
-        turned_back_row(&PART_TURNS[4 * stage + p], differences)
+    match stage {
+        5 => difference_row(first, last),
+        4 => quartered_difference_row(first, last),
+        _ => turned_back_row(&PART_TURNS[4 * stage + p], &difference_row(first, last)),
     }
 }
 
