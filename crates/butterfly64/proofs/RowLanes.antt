@@ -138,13 +138,6 @@ are_turned turns x a b p q turned a_is b_is p_is q_is re_long im_long turns_fit 
 pub narrow-lane : (turned : Eight) (y : Row) (l : ℕ) → y.re ≡ turned.re → y.im ≡ turned.im → row_lane y l ≡ lane turned l
 narrow-lane turned y l re_is im_is = rw (re_is, im_is) refl
 
--- a sum and a difference, from their components
-pub joined-pair : (x turned t : Cx) (re im : ℤ) → re ≡ x.re +ℤ turned.re → im ≡ x.im +ℤ turned.im → turned ≡ t → let pair : Cx = record { re = re; im = im } in pair ≡ plus x t
-joined-pair x turned t re im re_is im_is is = rw (re_is, im_is, is) refl
-
-pub parted-pair : (x turned t : Cx) (re im : ℤ) → re ≡ x.re -ℤ turned.re → im ≡ x.im -ℤ turned.im → turned ≡ t → let pair : Cx = record { re = re; im = im } in pair ≡ minus x t
-parted-pair x turned t re im re_is im_is is = rw (re_is, im_is, is) refl
-
 -- ---- two rows shuffled
 word_at : (xs ys : List ℤ) (k : ℕ) → NumbersWithin (2 ^ 31 - 1) xs → NumbersWithin (2 ^ 31 - 1) ys → to_z w32 (get_or (bits xs ++ bits ys) k 0) ≡ number_at (xs ++ ys) k
 word_at [] [] k h g = refl

@@ -34,6 +34,33 @@ row_of_turns k p k_below p_below = record {
   size = λ l lt. rw (turn_in_row k p l k_below p_below lt) (turn-size (2 ^ (5 - k) * ((8 * p + l) / apart k)));
 }
 
+-- the turn by nothing
+unturned_part : (a whole : ℤ) → whole ≡ a *ℤ pos 1048576 → half_up 20 whole ≡ a
+unturned_part a whole is =
+    let sum : whole +ℤ pos 524288 ≡ pos 524288 +ℤ a *ℤ pos 1048576 = omega (arith, ints) in
+    rw sum (floor_div-add_multiple (pos 524288) a 1048576 (omega arith) ∙ omega (arith, ints))
+
+pub turned_by_nothing : (z : Cx) → scaled_product (turn_at 0) z ≡ z
+unfolding scaled_product times turn_at
+turned_by_nothing z = λ i. record { re = re i; im = im i }
+  where
+    re : half_up 20 (pos 1048576 *ℤ z.re -ℤ pos 0 *ℤ z.im) ≡ z.re
+    re = unturned_part z.re (pos 1048576 *ℤ z.re -ℤ pos 0 *ℤ z.im) (omega (arith, ints))
+
+    im : half_up 20 (pos 1048576 *ℤ z.im +ℤ pos 0 *ℤ z.re) ≡ z.im
+    im = unturned_part z.im (pos 1048576 *ℤ z.im +ℤ pos 0 *ℤ z.re) (omega (arith, ints))
+
+-- and by a quarter
+pub turned_by_a_quarter : (z : Cx) → let turned : Cx = record { re = neg_ℤ z.im; im = z.re } in scaled_product (turn_at 16) z ≡ turned
+unfolding scaled_product times turn_at
+turned_by_a_quarter z = λ i. record { re = re i; im = im i }
+  where
+    re : half_up 20 (pos 0 *ℤ z.re -ℤ pos 1048576 *ℤ z.im) ≡ neg_ℤ z.im
+    re = unturned_part (neg_ℤ z.im) (pos 0 *ℤ z.re -ℤ pos 1048576 *ℤ z.im) (omega (arith, ints))
+
+    im : half_up 20 (pos 0 *ℤ z.im +ℤ pos 1048576 *ℤ z.re) ≡ z.re
+    im = unturned_part z.re (pos 0 *ℤ z.im +ℤ pos 1048576 *ℤ z.re) (omega (arith, ints))
+
 -- a stage reads places below 64
 pub reads_within : (k : ℕ) → k < 6 → (n : ℕ) → n < 32 → first_read k n + apart k < 64
 reads_within k k_below n n_below =
@@ -125,12 +152,7 @@ row_of_part_turns t p t_below p_below = record {
   size = λ l lt. rw (part_turn_in_row t p l t_below p_below lt) (turn-size (2 ^ (5 - (5 - t)) * ((8 * p + l) % apart t)));
 }
 
--- the turn by nothing
-unturned_part : (a whole : ℤ) → whole ≡ a *ℤ pos 1048576 → half_up 20 whole ≡ a
-unturned_part a whole is =
-    let sum : whole +ℤ pos 524288 ≡ pos 524288 +ℤ a *ℤ pos 1048576 = omega (arith, ints) in
-    rw sum (floor_div-add_multiple (pos 524288) a 1048576 (omega arith) ∙ omega (arith, ints))
-
+-- the turns back
 pub unturned : (z : Cx) → scaled_product (conjugate (turn_at 0)) z ≡ z
 unfolding scaled_product times turn_at
 unturned z = λ i. record { re = re i; im = im i }
@@ -141,7 +163,6 @@ unturned z = λ i. record { re = re i; im = im i }
     im : half_up 20 (pos 1048576 *ℤ z.im +ℤ pos 0 *ℤ z.re) ≡ z.im
     im = unturned_part z.im (pos 1048576 *ℤ z.im +ℤ pos 0 *ℤ z.re) (omega (arith, ints))
 
--- the turn back by a quarter
 pub quarter_back : (z : Cx) → let back : Cx = record { re = z.im; im = neg_ℤ z.re } in scaled_product (conjugate (turn_at 16)) z ≡ back
 unfolding scaled_product times turn_at
 quarter_back z = λ i. record { re = re i; im = im i }

@@ -1,5 +1,5 @@
 //! Eight pairs of 32-bit words in lanes.
-ghost use Rattle.std.specs.Prelude.{◌≡◌, ℕ, ◌+◌, ◌-◌, ◌*◌, ◌%◌, ◌^◌, ◌<◌, length, ◌+ℤ◌, ◌-ℤ◌};
+ghost use Rattle.std.specs.Prelude.{◌≡◌, ℕ, ◌+◌, ◌-◌, ◌*◌, ◌/◌, ◌%◌, ◌^◌, ◌<◌, length, ◌+ℤ◌, ◌-ℤ◌};
 ghost use Rattle.fixed_complex.specs.Pairs.{conjugate, minus, plus, scaled_product};
 ghost use Rattle.fixed_complex.specs.Turns.{turn_at};
 ghost use Rattle.fixed_complex.specs.Numbers.{NumbersWithin, number_at};
@@ -15,18 +15,16 @@ pub struct Row {
     pub im: [i32; 8],
 }
 
-// The sums and the differences of eight pairs and the turns of eight others.
+// The sums and the differences of eight pairs and eight others, which are turned already.
 #[inline(always)]
-pub(crate) fn joined_row(even: &Row, odd: &Row, turns: &Row) -> (Row, Row)
+pub(crate) fn joined_row(even: &Row, turned: &Row) -> (Row, Row)
     requires even { RowOfSize (2 ^ 30 - 2 ^ 12) even.now }
-    requires odd { RowOfSize (2 ^ 30 - 2 ^ 12) odd.now }
-    requires turns { RowOfTurns turns.now }
-    ensures sums { (l : ℕ) → l < 8 → row_lane result.0 l
-        ≡ plus (row_lane even.now l) (scaled_product (row_lane turns.now l) (row_lane odd.now l)) }
-    ensures differences { (l : ℕ) → l < 8 → row_lane result.1 l
-        ≡ minus (row_lane even.now l) (scaled_product (row_lane turns.now l) (row_lane odd.now l)) }
+    requires turned_re { NumbersWithin (2 ^ 30 - 1) turned.now.re }
+    requires turned_im { NumbersWithin (2 ^ 30 - 1) turned.now.im }
+    ensures sums { (l : ℕ) → l < 8 → row_lane result.0 l ≡ plus (row_lane even.now l) (row_lane turned.now l) }
+    ensures differences { (l : ℕ) → l < 8
+        → row_lane result.1 l ≡ minus (row_lane even.now l) (row_lane turned.now l) }
 {
-    let turned = turned_row(turns, odd);
     let sums = Row {
         re: word_sums(even.re, turned.re),
         im: word_sums(even.im, turned.im),
@@ -36,6 +34,26 @@ pub(crate) fn joined_row(even: &Row, odd: &Row, turns: &Row) -> (Row, Row)
         im: word_differences(even.im, turned.im),
     };
     (sums, differences)
+}
+
+// Eight pairs, turned by a quarter in the upper half of a stage's places, and as they are in the lower.
+#[inline(always)]
+pub(crate) fn quartered_row(x: &Row, p: usize) -> Row
+    requires p { p < 4 }
+    requires x { RowOfSize (2 ^ 30 - 2 ^ 12) x.now }
+    ensures value { (l : ℕ) → l < 8
+        → row_lane result l ≡ scaled_product (turn_at (16 * (p / 2))) (row_lane x.now l) }
+    ensures re { NumbersWithin (2 ^ 30 - 1) result.re }
+    ensures im { NumbersWithin (2 ^ 30 - 1) result.im }
+{
+    if p < 2 {
+        *x
+    } else {
+        Row {
+            re: word_differences([0; 8], x.im),
+            im: x.re,
+        }
+    }
 }
 
 // The sums of eight and eight pairs.
@@ -78,7 +96,9 @@ pub(crate) fn quartered_difference_row(x: &Row, y: &Row) -> Row
     let negative_re = i32x8::from_array(word_differences(y.re, x.re));
     Row {
         re: re.shuffle(im, [0, 9, 2, 11, 4, 13, 6, 15]).to_array(),
-        im: im.shuffle(negative_re, [0, 9, 2, 11, 4, 13, 6, 15]).to_array(),
+        im: im
+            .shuffle(negative_re, [0, 9, 2, 11, 4, 13, 6, 15])
+            .to_array(),
     }
 }
 
@@ -108,7 +128,7 @@ pub(crate) fn turned_back_row(turns: &Row, x: &Row) -> Row
 
 // The products of eight and eight pairs over 2^20, rounded half up.
 #[inline(always)]
-fn turned_row(turns: &Row, x: &Row) -> Row
+pub(crate) fn turned_row(turns: &Row, x: &Row) -> Row
     requires turns { RowOfTurns turns.now }
     requires x { RowOfSize (2 ^ 30 - 2 ^ 12) x.now }
     ensures value { (l : ℕ) → l < 8

@@ -7,7 +7,10 @@ ghost use Rattle.butterfly64.specs.StagedSums.{stage_turn};
 ghost use Rattle.butterfly64.specs.Rows.{IsJoined, IsParted, RowOfSize, RowsOfSize, apart, first_read, place_in, place_of_two, row_lane};
 
 use crate::row_turns::{PART_TURNS, ROW_TURNS};
-use crate::rows::{Row, difference_row, joined_row, narrowed, quartered_difference_row, sum_row, turned_back_row};
+use crate::rows::{
+    Row, difference_row, joined_row, narrowed, quartered_difference_row, quartered_row, sum_row,
+    turned_back_row, turned_row,
+};
 use fixed_complex::Cx;
 use std::simd::prelude::*;
 
@@ -20,9 +23,28 @@ pub(crate) fn join_rows(x: &[Row; 8], y: &mut [Row; 8], stage: usize)
 {
     for p in 0..4 {
         let (first, second) = read_rows(x, stage, p);
-        let (sums, differences) = joined_row(&first, &second, &ROW_TURNS[4 * stage + p]);
+        let (sums, differences) = joined_row(&first, &turned_seconds(&second, stage, p));
         y[p] = sums;
         y[p + 4] = differences;
+    }
+}
+
+// The second pairs that a stage of `up` joins for places 8p to 8p + 7, turned. The first stage turns none of them, and the next
+// one half of them by a quarter.
+#[inline(always)]
+fn turned_seconds(second: &Row, stage: usize, p: usize) -> Row
+    requires stage { stage < 6 }
+    requires p { p < 4 }
+    requires second { RowOfSize (2 ^ 30 - 2 ^ 12) second.now }
+    ensures value { (l : ℕ) → l < 8 → row_lane result l
+        ≡ scaled_product (stage_turn stage ((8 * p + l) / apart stage)) (row_lane second.now l) }
+    ensures re { NumbersWithin (2 ^ 30 - 1) result.re }
+    ensures im { NumbersWithin (2 ^ 30 - 1) result.im }
+{
+    match stage {
+        0 => *second,
+        1 => quartered_row(second, p),
+        _ => turned_row(&ROW_TURNS[4 * stage + p], second),
     }
 }
 

@@ -20,5 +20,5 @@ returns c =
     let difference = λ (l : ℕ) (lt : l < 8). plain-difference (row_lane c.args.x.now l) (row_lane c.args.y.now l) _ _ (c.word_differences.ensures l lt) (c.word_differences-2.ensures l lt) in
     record {
       value = difference;
-      size = record { each = λ l lt. difference-size (row_lane c.args.x.now l) (row_lane c.args.y.now l) _ (difference l lt) (c.requires.x.each l lt) (c.requires.y.each l lt); };
+      size = record { each = λ l lt. difference-size (row_lane c.args.x.now l) (row_lane c.args.y.now l) _ (difference l lt) (c.requires.x.each l lt) (c.requires.y.each l lt) };
     }

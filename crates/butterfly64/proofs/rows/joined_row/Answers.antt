@@ -1,5 +1,5 @@
 use Rattle.std.proofs.Common.{◌-◌, ◌^◌, rules, arith}
-use Rattle.butterfly64.proofs.RowLanes.{joined-pair, parted-pair, row-re, row-im}
+use Rattle.butterfly64.proofs.RowLanes.{plain-difference, plain-sum, row-re, row-im}
 use Rattle.butterfly64.specs.Rows.{row_lane}
 use Rattle.butterfly64.proofs.rows.joined_row.Goals as goal
 
@@ -17,6 +17,6 @@ word_differences-requires-2-clause-x c = row-im (2 ^ 30 - 2 ^ 12) (2 ^ 30 - 1) c
 
 pub returns : goal.returns
 returns c = record {
-  sums = λ l lt. joined-pair (row_lane c.args.even.now l) (row_lane c.turned_row-turned.result l) _ _ _ (c.word_sums.ensures l lt) (c.word_sums-2.ensures l lt) (c.turned_row-turned.ensures.value l lt);
-  differences = λ l lt. parted-pair (row_lane c.args.even.now l) (row_lane c.turned_row-turned.result l) _ _ _ (c.word_differences.ensures l lt) (c.word_differences-2.ensures l lt) (c.turned_row-turned.ensures.value l lt);
+  sums = λ l lt. plain-sum (row_lane c.args.even.now l) (row_lane c.args.turned.now l) _ _ (c.word_sums.ensures l lt) (c.word_sums-2.ensures l lt);
+  differences = λ l lt. plain-difference (row_lane c.args.even.now l) (row_lane c.args.turned.now l) _ _ (c.word_differences.ensures l lt) (c.word_differences-2.ensures l lt);
 }

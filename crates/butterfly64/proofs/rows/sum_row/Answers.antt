@@ -1,4 +1,4 @@
-use Rattle.std.proofs.Common.{ℕ, ◌+◌, ◌-◌, ◌^◌, ◌<◌, rules, arith}
+use Rattle.std.proofs.Common.{◌+◌, ◌-◌, ◌^◌, rules, arith}
 use Rattle.butterfly64.specs.Rows.{row_lane}
 use Rattle.butterfly64.proofs.RowLanes.{plain-sum, row-re, row-im}
 use Rattle.butterfly64.proofs.rows.sum_row.Goals as goal
