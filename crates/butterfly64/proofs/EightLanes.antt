@@ -43,6 +43,14 @@ parted_at-local k below x y h l lt =
     let high = h (low_place k l + 2 ^ k) within in
     rw (low, high)
 
+-- what holds of four places, one by one
+pub at_four : (P : ℕ → Type 0) → P 0 → P 1 → P 2 → P 3 → (k : ℕ) → k < 4 → P k
+at_four P a b c d zero lt = a
+at_four P a b c d (suc zero) lt = b
+at_four P a b c d (suc (suc zero)) lt = c
+at_four P a b c d (suc (suc (suc zero))) lt = d
+at_four P a b c d (suc (suc (suc (suc k)))) lt = absurd (omega arith)
+
 -- what holds of eight lanes, lane by lane
 pub at_eight : (P : ℕ → Type 0) → P 0 → P 1 → P 2 → P 3 → P 4 → P 5 → P 6 → P 7 → (l : ℕ) → l < 8 → P l
 at_eight P a b c d e f g h zero lt = a

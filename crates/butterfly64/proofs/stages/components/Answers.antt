@@ -1,17 +1,14 @@
-use Rattle.std.proofs.Common.{◌≡◌, ℕ, zero, suc, ◌+◌, ◌*◌, ◌<◌, ◌∙◌, [], ◌∷◌, ap, w64, to_z, of_z, arith}
+use Rattle.std.proofs.Common.{◌≡◌, ℕ, ◌+◌, ◌*◌, ◌<◌, ◌∙◌, [], ◌∷◌, ap, w64, to_z, of_z, arith}
 use Rattle.std.specs.Prelude.{ℤ}
 use Rattle.std.proofs.lemmas.Int.{ints}
 use Rattle.fixed_complex.specs.Numbers.{number_at}
 use Rattle.fixed_complex.specs.PairLists.{entry}
+use Rattle.butterfly64.proofs.EightLanes.{at_four}
 use Rattle.butterfly64.proofs.stages.components.Goals as goal
 
 -- the first components of four pairs
 firsts : (f : ℕ → ℤ) (a b c d e g h i : ℤ) → a ≡ f 0 → c ≡ f 1 → e ≡ f 2 → h ≡ f 3 → (k : ℕ) → k < 4 → number_at (a ∷ b ∷ c ∷ d ∷ e ∷ g ∷ h ∷ i ∷ []) (2 * k) ≡ f k
-firsts f a b c d e g h i p q r s zero lt = p
-firsts f a b c d e g h i p q r s (suc zero) lt = q
-firsts f a b c d e g h i p q r s (suc (suc zero)) lt = r
-firsts f a b c d e g h i p q r s (suc (suc (suc zero))) lt = s
-firsts f a b c d e g h i p q r s (suc (suc (suc (suc k)))) lt = absurd (omega arith)
+firsts f a b c d e g h i = at_four (λ k. number_at (a ∷ b ∷ c ∷ d ∷ e ∷ g ∷ h ∷ i ∷ []) (2 * k) ≡ f k)
 
 pub returns-clause-re : goal.returns-clause-re
 returns-clause-re c =
