@@ -14,7 +14,7 @@ ghost use Rattle.carrier_equaliser.specs.Estimates.{estimate_at, estimate_of};
 use crate::ZERO;
 use crate::decisions::decide_all;
 use carrier_bins::{bin, carrier_in};
-use fixed_complex::{Cx, add};
+use fixed_complex::{Cx, add, signed};
 use rate_table::Rate;
 use std::marker::Model;
 use training_fields::long_sign;
@@ -96,7 +96,7 @@ fn estimated(first: &[Cx; 64], second: &[Cx; 64], bin: usize) -> Cx
     ensures within { IsWithin (2 ^ 23) result }
 {
     let (first, second) = (first[bin], second[bin]);
-    signed_sum(sign_in(bin), first, second)
+    signed(sign_in(bin), add(first, second))
 }
 
 // The sign L of a bin's carrier.
@@ -106,29 +106,4 @@ fn sign_in(bin: usize) -> i64
     ensures within { unsigned_abs result ≤ 1 }
 {
     long_sign(carrier_in(bin))
-}
-
-// The sum of two pairs times a sign.
-fn signed_sum(sign: i64, first: Cx, second: Cx) -> Cx
-    requires sign { unsigned_abs sign ≤ 1 }
-    requires first { IsWithin (2 ^ 22) first }
-    requires second { IsWithin (2 ^ 22) second }
-    ensures value { result ≡ multiple sign (plus first second) }
-    ensures within { IsWithin (2 ^ 23) result }
-{
-    let sum = add(first, second);
-    Cx {
-        re: signed(sign, sum.re),
-        im: signed(sign, sum.im),
-    }
-}
-
-// A number times a sign.
-fn signed(sign: i64, part: i64) -> i64
-    requires sign { unsigned_abs sign ≤ 1 }
-    requires part { unsigned_abs part ≤ 2 ^ 23 }
-    ensures value { result ≡ sign *ℤ part }
-    ensures within { unsigned_abs result ≤ 2 ^ 23 }
-{
-    sign * part
 }

@@ -11,7 +11,7 @@ use Rattle.fixed_complex.specs.Pairs.{IsOfSize, conjugate, minus, multiple, plus
 use Rattle.fixed_complex.specs.Turns.{turn_at}
 use Rattle.fixed_complex.proofs.Pairs.{same_parts}
 use Rattle.fixed_complex.proofs.PairSizes.{size-minus, size-multiple, size-times, size_by_parts, wider}
-use Rattle.fixed_complex.proofs.Sums.{minus_sums, multiple_sum, plus_sums, same_sums, sum-local, times_sum}
+use Rattle.fixed_complex.proofs.Sums.{minus_sums, multiple_sum, plus_sums, same_sums, sum-local, times_sum, zero_times}
 use Rattle.butterfly64.specs.PlainSums.{plain_down}
 use Rattle.plain_waves.specs.Bodies.{plain_body}
 use Rattle.echo_taps.specs.Taps.{IsEcho}
@@ -34,16 +34,6 @@ plus_times a b t = same_parts _ _ (re a.re a.im b.re b.im t.re t.im) (im a.re a.
 
     im : (a b c d t u : ℤ) → (a +ℤ c) *ℤ u +ℤ (b +ℤ d) *ℤ t ≡ (a *ℤ u +ℤ b *ℤ t) +ℤ (c *ℤ u +ℤ d *ℤ t)
     im = ring 6 (λ a b c d t u. (a ⊕ c) ⊗ u ⊕ (b ⊕ d) ⊗ t ≗ (a ⊗ u ⊕ b ⊗ t) ⊕ (c ⊗ u ⊕ d ⊗ t)) refl
-
-zero_times : (t : Cx) → times zero_pair t ≡ zero_pair
-unfolding times
-zero_times t = same_parts _ _ (re t.re t.im) (im t.re t.im)
-  where
-    re : (t u : ℤ) → pos 0 *ℤ t -ℤ pos 0 *ℤ u ≡ pos 0
-    re = ring 2 (λ t u. number (pos 0) ⊗ t ⊖ number (pos 0) ⊗ u ≗ number (pos 0)) refl
-
-    im : (t u : ℤ) → pos 0 *ℤ u +ℤ pos 0 *ℤ t ≡ pos 0
-    im = ring 2 (λ t u. number (pos 0) ⊗ u ⊕ number (pos 0) ⊗ t ≗ number (pos 0)) refl
 
 none : (n : ℕ) → sum_below n (λ m. zero_pair) ≡ zero_pair
 unfolding sum_below

@@ -1,5 +1,5 @@
 -- What comes together at four places and at sixteen, delay by delay.
-use Rattle.std.proofs.Common.{◌≡◌, ℕ, zero, suc, ◌+◌, ◌-◌, ◌*◌, ◌^◌, ◌<◌, ◌≤◌, List, [], ◌∷◌, ◌++◌, ℤ, pos, neg_ℤ, ◌+ℤ◌, ◌-ℤ◌, ◌*ℤ◌, to_z, of_z, refl, sym, ap, ◌∙◌, arith}
+use Rattle.std.proofs.Common.{◌≡◌, ℕ, suc, ◌+◌, ◌-◌, ◌*◌, ◌^◌, ◌<◌, ◌≤◌, List, [], ◌∷◌, ◌++◌, ℤ, pos, neg_ℤ, ◌+ℤ◌, ◌*ℤ◌, to_z, of_z, refl, sym, ap, ◌∙◌, arith}
 use Rattle.std.specs.Prelude.{unsigned_abs}
 use Rattle.std.proofs.lemmas.Bool.{le-ltb}
 use Rattle.std.proofs.lemmas.Int.{ints, to_z-of_z}
@@ -16,6 +16,7 @@ use Rattle.fixed_complex.specs.PairLists.{entry}
 use Rattle.fixed_complex.specs.Pairs.{IsWithin, plus, times, zero_pair}
 use Rattle.fixed_complex.specs.Rounding.{half_up}
 use Rattle.fixed_complex.specs.Samples.{pair_at, pair_of, sample_at}
+use Rattle.fixed_complex.proofs.Sums.{plus_zero, within-more, zero_times}
 use Rattle.lane_kernels.specs.Lanes.{AreOf16Bits, components_of, eight, four}
 use Rattle.lane_kernels.proofs.Bounds.{size-le}
 use Rattle.lane_kernels.proofs.FourLanes.{four-each}
@@ -29,15 +30,7 @@ use Rattle.echo_taps.specs.Echoes.{earlier, gathered, held_sample}
 
 -- ---- a tap's numbers in lanes
 turn-within : (a b : ℤ) (bound : ℕ) → unsigned_abs a ≤ bound → unsigned_abs b ≤ bound → NumbersWithin bound (in_turn a b)
-turn-within a b bound h k zero = h
-turn-within a b bound h k (suc zero) = k
-turn-within a b bound h k (suc (suc zero)) = h
-turn-within a b bound h k (suc (suc (suc zero))) = k
-turn-within a b bound h k (suc (suc (suc (suc zero)))) = h
-turn-within a b bound h k (suc (suc (suc (suc (suc zero))))) = k
-turn-within a b bound h k (suc (suc (suc (suc (suc (suc zero)))))) = h
-turn-within a b bound h k (suc (suc (suc (suc (suc (suc (suc zero))))))) = k
-turn-within a b bound h k (suc (suc (suc (suc (suc (suc (suc (suc n)))))))) = omega arith
+turn-within a b bound h k = eight-each (λ z. unsigned_abs z ≤ bound) (number_at (in_turn a b)) h k h k h k h k (omega arith)
 
 pub real_within : (by : List ℤ) (tap : Cx) → by ≡ in_turn tap.re (neg_ℤ tap.im) → IsWithin 1024 tap → NumbersWithin 1024 by
 real_within by tap is within = rw is (turn-within tap.re (neg_ℤ tap.im) 1024 within.re (omega (arith, ints, within.im)))
@@ -116,9 +109,6 @@ product-within tap a h k =
     let im_i = unsigned_abs-product tap.im a.i 1024 32768 h.im i in
     record { re = omega (arith, ints, re_i, im_q); im = omega (arith, ints, re_q, im_i) }
 
-sum-within : (count : ℕ) (a b : Cx) → IsWithin (count * 2 ^ 26) a → IsWithin (2 ^ 26) b → IsWithin ((count + 1) * 2 ^ 26) (plus a b)
-sum-within count a b h k = record { re = omega (arith, ints, h.re, k.re); im = omega (arith, ints, h.im, k.im) }
-
 pub one_delay_more : (taps : List Cx) (samples : List Sample) (late place at : ℕ) (sums result : Four) (a : ℕ → Sample) → late ≤ place → at ≡ place - late → ((n : ℕ) → n < 4 → a n ≡ sample_at samples (at + n)) → ((n : ℕ) → n < 4 → IsOf16Bits (a n))
     → IsWithin 1024 (entry taps late) → AreSums late taps samples place sums
     → result ≡ parts_of (λ n. plus (gathered_by late taps (pair_at samples) (place + n)) (times (entry taps late) (pair_of (a n)))) → AreSums (late + 1) taps samples place result
@@ -132,37 +122,18 @@ one_delay_more taps samples late place at sums result a before at_is a_is bits t
     more in
     record {
       value = is ∙ sym (parts-same _ _ step);
-      within = λ n below. rw (step n below) (sum-within late _ _ (are.within n below) (product-within (entry taps late) (a n) tap (bits n below)));
+      within = λ n below. rw (step n below) (within-more (2 ^ 26) late _ _ (are.within n below) (product-within (entry taps late) (a n) tap (bits n below)));
     }
 
 -- a delay without a tap
-times-none : (a : Cx) → times zero_pair a ≡ zero_pair
-unfolding times
-times-none a = λ i. record { re = re i; im = im i }
-  where
-    re : pos 0 *ℤ a.re -ℤ pos 0 *ℤ a.im ≡ pos 0
-    re = omega (arith, ints)
-
-    im : pos 0 *ℤ a.im +ℤ pos 0 *ℤ a.re ≡ pos 0
-    im = omega (arith, ints)
-
-plus-none : (a : Cx) → plus a zero_pair ≡ a
-plus-none a = λ i. record { re = re i; im = im i }
-  where
-    re : a.re +ℤ pos 0 ≡ a.re
-    re = omega (arith, ints)
-
-    im : a.im +ℤ pos 0 ≡ a.im
-    im = omega (arith, ints)
-
 no_delay_more : (taps : List Cx) (samples : List Sample) (late place : ℕ) (sums : Four) → entry taps late ≡ zero_pair → AreSums late taps samples place sums → AreSums (late + 1) taps samples place sums
 no_delay_more taps samples late place sums none are =
     let step = λ (n : ℕ).
     let same : gathered_by (late + 1) taps (pair_at samples) (place + n) ≡ gathered_by late taps (pair_at samples) (place + n) =
     gathered-more taps (pair_at samples) late (place + n)
     ∙ ap (λ x. plus (gathered_by late taps (pair_at samples) (place + n)) (times x (earlier (pair_at samples) (place + n) late))) none
-    ∙ ap (plus (gathered_by late taps (pair_at samples) (place + n))) (times-none (earlier (pair_at samples) (place + n) late))
-    ∙ plus-none (gathered_by late taps (pair_at samples) (place + n)) in
+    ∙ ap (plus (gathered_by late taps (pair_at samples) (place + n))) (zero_times (earlier (pair_at samples) (place + n) late))
+    ∙ plus_zero (gathered_by late taps (pair_at samples) (place + n)) in
     same in
     record {
       value = are.value ∙ sym (parts-same _ _ (λ n _. step n));

@@ -1,24 +1,22 @@
 -- Sums of products in lanes of 32 bits, and the samples that they are held as.
-use Rattle.std.proofs.Common.{◌≡◌, ℕ, ◌+◌, ◌*◌, ◌^◌, ◌≤◌, List, [], ◌∷◌, ◌++◌, map, length, replicate, Bool, true, false, cond, ℤ, pos, negsuc, ◌+ℤ◌, to_z, of_z, w32, refl, sym, ap, subst, ◌∙◌, arith}
-use Rattle.std.specs.Prelude.{FitsSigned, int_lt, unsigned_abs}
-use Rattle.std.specs.Int.{int_min}
-use Rattle.std.specs.Simd.Lanes.{zip2, Each1, Each2, pick_l, sel_l, top}
-use Rattle.std.proofs.lemmas.Int.{ints, to_z-of_z}
-use borrow.Rule.Simd.Lanes.{act1, act2, Asks1, Asks2}
+use Rattle.std.proofs.Common.{◌≡◌, ℕ, ◌+◌, ◌*◌, ◌^◌, ◌≤◌, List, [], ◌∷◌, ◌++◌, map, length, replicate, ℤ, pos, negsuc, ◌+ℤ◌, to_z, of_z, w32, refl, sym, ap, subst, ◌∙◌, arith}
+use Rattle.std.specs.Prelude.{FitsSigned, unsigned_abs}
+use Rattle.std.specs.Simd.Lanes.{zip2, Each2, pick_l}
+use Rattle.std.proofs.lemmas.Int.{ints}
+use borrow.Rule.Simd.Lanes.{act2, Asks2}
 use borrow.Table.Row.{s_int}
 use lib.Signed.{shr_z}
-use mir.Syntax.{add, cast, lt, mask, shr, signed, w16}
+use mir.Syntax.{add, shr, signed}
 use Rattle.integer_laws.specs.Floor.{floor_div}
 use Rattle.fixed_complex.specs.Numbers.{NumbersWithin, number_at}
 use Rattle.fixed_complex.specs.Rounding.{half_up}
-use Rattle.lane_kernels.specs.Kernels.{held}
-use Rattle.lane_kernels.specs.Lanes.{four}
+use Rattle.lane_kernels.specs.Lanes.{AreOf32Bits, four}
 use Rattle.lane_kernels.proofs.FourLanes.{four_of}
-use Rattle.lane_kernels.proofs.Holding.{held-fits}
 use Rattle.lane_kernels.proofs.LaneSums.{eight_of}
+use Rattle.lane_kernels.proofs.Totals.{eight-each}
 use Rattle.lane_kernels.proofs.WordLanes.{bits, evens, neighbours, odds}
 use Rattle.echo_taps.specs.declared.lanes.Four.{Four}
-use Rattle.echo_taps.specs.Blocks.{IsFourWithin, held_part, held_parts}
+use Rattle.echo_taps.specs.Blocks.{IsFourWithin}
 
 -- ---- sums in one lane
 abbrev word : ℤ → ℤ
@@ -91,51 +89,12 @@ rounded_lane-is z h =
     let within : unsigned_abs whole ≤ 2 ^ 30 = omega (arith, ints) in
     rw (word-is z (omega arith), word-is whole within, shifted whole) (word-is (floor_div whole 1024) (omega (arith, floor_within whole)))
 
--- a held one
-picked : (t : Bool) → top 31 (cond t 4294967295 0) ≡ t
-picked true = refl
-picked false = refl
-
-to_z-cond : (t : Bool) (m n : ℕ) → to_z w32 (cond t m n) ≡ cond t (to_z w32 m) (to_z w32 n)
-to_z-cond true m n = refl
-to_z-cond false m n = refl
-
-lesser : (v : ℤ) → cond (int_lt v (pos 32767)) v (pos 32767) ≡ int_min v (pos 32767)
-lesser v = grind (arith, ints)
-
-abbrev least_lane : ℕ → ℕ
-least_lane s = cond (top 31 (cond (int_lt (to_z w32 s) (pos 32767)) 4294967295 0)) s 32767
-
-abbrev held_lane : ℕ → ℕ
-held_lane s = cond (top 31 (cond (int_lt (to_z w32 (least_lane s)) (negsuc 32767)) 4294967295 0)) 4294934528 (least_lane s)
-
-held_lane-is : (s : ℕ) (v : ℤ) → to_z w32 s ≡ v → to_z w32 (held_lane s) ≡ held v
-held_lane-is s v is =
-    let low : to_z w32 (least_lane s) ≡ int_min v (pos 32767) =
-    rw (picked (int_lt (to_z w32 s) (pos 32767)), to_z-cond (int_lt (to_z w32 s) (pos 32767)) s 32767, is) (lesser v) in
-    rw (picked (int_lt (to_z w32 (least_lane s)) (negsuc 32767)), to_z-cond (int_lt (to_z w32 (least_lane s)) (negsuc 32767)) 4294934528 (least_lane s), low) refl
-
-narrow-fits : (z : ℤ) → unsigned_abs z ≤ 2 ^ 29 → FitsSigned w16 (to_z w32 (held_lane (rounded_lane z)))
-narrow-fits z h = rw (held_lane-is (rounded_lane z) (half_up 10 z) (rounded_lane-is z h)) (held-fits (half_up 10 z))
-
-narrow-is : (z : ℤ) → unsigned_abs z ≤ 2 ^ 29 → to_z w16 (of_z w16 (to_z w32 (held_lane (rounded_lane z)))) ≡ held_part z
-narrow-is z h = rw (held_lane-is (rounded_lane z) (half_up 10 z) (rounded_lane-is z h)) (to_z-of_z w16 (held_part z) (held-fits (half_up 10 z)))
-
 -- ---- in eight lanes
 abbrev mixed : List ℤ → List ℤ → List ℕ
 mixed x y = pick_l 0 (bits x ++ bits y) (0 ∷ 4 ∷ 1 ∷ 5 ∷ 2 ∷ 6 ∷ 3 ∷ 7 ∷ [])
 
 abbrev rounded : List ℕ → List ℕ
 rounded l = zip2 (act2 (shr signed) (s_int w32) (s_int w32) (s_int w32)) (zip2 (act2 (add signed) (s_int w32) (s_int w32) (s_int w32)) l (replicate 8 512)) (replicate 8 10)
-
-abbrev below_lanes : List ℕ → List ℕ → List Bool
-below_lanes s t = map (top 31) (zip2 (act2 (mask (lt signed)) (s_int w32) (s_int w32) (s_int w32)) s t)
-
-abbrev at_most : List ℕ → List ℕ
-at_most s = sel_l (below_lanes s (replicate 8 32767)) s (replicate 8 32767)
-
-abbrev at_least : List ℕ → List ℕ
-at_least t = sel_l (below_lanes t (replicate 8 4294934528)) (replicate 8 4294934528) t
 
 pub halves_fit : (x y : List ℤ) → length x ≡ 4 → length y ≡ 4 → NumbersWithin (2 ^ 29) x → NumbersWithin (2 ^ 29) y → Each2 (Asks2 (add signed) (s_int w32) (s_int w32)) (mixed x y) (replicate 8 512)
 halves_fit x y x_long y_long g h =
@@ -145,29 +104,34 @@ halves_fit x y x_long y_long g h =
     (subst (λ (l : List ℤ). Each2 (Asks2 (add signed) (s_int w32) (s_int w32)) (mixed (four a) l) (replicate 8 512)) (sym (four_of (pos 0) y y_long))
     (half-fits (a 0) (g 0), (half-fits (b 0) (h 0), (half-fits (a 1) (g 1), (half-fits (b 1) (h 1), (half-fits (a 2) (g 2), (half-fits (b 2) (h 2), (half-fits (a 3) (g 3), (half-fits (b 3) (h 3), tt)))))))))
 
-pub casts_fit : (x y : List ℤ) → length x ≡ 4 → length y ≡ 4 → NumbersWithin (2 ^ 29) x → NumbersWithin (2 ^ 29) y → Each1 (Asks1 (cast signed signed w16) (s_int w32)) (at_least (at_most (rounded (mixed x y))))
-casts_fit x y x_long y_long g h =
-    let a = number_at x in
-    let b = number_at y in
-    subst (λ (l : List ℤ). Each1 (Asks1 (cast signed signed w16) (s_int w32)) (at_least (at_most (rounded (mixed l y))))) (sym (four_of (pos 0) x x_long))
-    (subst (λ (l : List ℤ). Each1 (Asks1 (cast signed signed w16) (s_int w32)) (at_least (at_most (rounded (mixed (four a) l))))) (sym (four_of (pos 0) y y_long))
-    (narrow-fits (a 0) (g 0), (narrow-fits (b 0) (h 0), (narrow-fits (a 1) (g 1), (narrow-fits (b 1) (h 1), (narrow-fits (a 2) (g 2), (narrow-fits (b 2) (h 2), (narrow-fits (a 3) (g 3), (narrow-fits (b 3) (h 3), tt)))))))))
+-- the parts of four sums, each over 1024 and rounded half up
+abbrev rounded_parts : Four → List ℤ
+rounded_parts sums =
+    half_up 10 (number_at sums.re 0) ∷ half_up 10 (number_at sums.im 0) ∷ half_up 10 (number_at sums.re 1) ∷ half_up 10 (number_at sums.im 1)
+    ∷ half_up 10 (number_at sums.re 2) ∷ half_up 10 (number_at sums.im 2) ∷ half_up 10 (number_at sums.re 3) ∷ half_up 10 (number_at sums.im 3) ∷ []
 
-abbrev narrow : List ℕ → List ℤ
-narrow t = map (to_z w16) (map (act1 (cast signed signed w16) (s_int w32) (s_int w16)) t)
-
-pub held_are : (sums : Four) → length sums.re ≡ 4 → length sums.im ≡ 4 → IsFourWithin (2 ^ 29) sums → narrow (at_least (at_most (rounded (mixed sums.re sums.im)))) ≡ held_parts sums
-held_are sums x_long y_long h =
+pub rounded_are : (sums : Four) → length sums.re ≡ 4 → length sums.im ≡ 4 → IsFourWithin (2 ^ 29) sums → map (to_z w32) (rounded (mixed sums.re sums.im)) ≡ rounded_parts sums
+rounded_are sums x_long y_long h =
     let a = number_at sums.re in
     let b = number_at sums.im in
-    let e0 = narrow-is (a 0) (h.re 0) in
-    let e1 = narrow-is (b 0) (h.im 0) in
-    let e2 = narrow-is (a 1) (h.re 1) in
-    let e3 = narrow-is (b 1) (h.im 1) in
-    let e4 = narrow-is (a 2) (h.re 2) in
-    let e5 = narrow-is (b 2) (h.im 2) in
-    let e6 = narrow-is (a 3) (h.re 3) in
-    let e7 = narrow-is (b 3) (h.im 3) in
-    ap (λ (l : List ℤ). narrow (at_least (at_most (rounded (mixed l sums.im))))) (four_of (pos 0) sums.re x_long)
-    ∙ (ap (λ (l : List ℤ). narrow (at_least (at_most (rounded (mixed (four a) l))))) (four_of (pos 0) sums.im y_long)
+    let e0 = rounded_lane-is (a 0) (h.re 0) in
+    let e1 = rounded_lane-is (b 0) (h.im 0) in
+    let e2 = rounded_lane-is (a 1) (h.re 1) in
+    let e3 = rounded_lane-is (b 1) (h.im 1) in
+    let e4 = rounded_lane-is (a 2) (h.re 2) in
+    let e5 = rounded_lane-is (b 2) (h.im 2) in
+    let e6 = rounded_lane-is (a 3) (h.re 3) in
+    let e7 = rounded_lane-is (b 3) (h.im 3) in
+    ap (λ (l : List ℤ). map (to_z w32) (rounded (mixed l sums.im))) (four_of (pos 0) sums.re x_long)
+    ∙ (ap (λ (l : List ℤ). map (to_z w32) (rounded (mixed (four a) l))) (four_of (pos 0) sums.im y_long)
     ∙ (λ i. e0 i ∷ e1 i ∷ e2 i ∷ e3 i ∷ e4 i ∷ e5 i ∷ e6 i ∷ e7 i ∷ []))
+
+rounded-fits : (z : ℤ) → unsigned_abs z ≤ 2 ^ 29 → FitsSigned w32 (half_up 10 z)
+rounded-fits z h = let within : unsigned_abs (z +ℤ pos 512) ≤ 2 ^ 30 = omega (arith, ints) in omega (arith, ints, floor_within (z +ℤ pos 512))
+
+pub rounded_fit : (sums : Four) (r : List ℤ) → IsFourWithin (2 ^ 29) sums → r ≡ rounded_parts sums → AreOf32Bits r
+rounded_fit sums r h is =
+    let a = number_at sums.re in
+    let b = number_at sums.im in
+    rw is (eight-each (FitsSigned w32) (number_at (rounded_parts sums)) (rounded-fits (a 0) (h.re 0)) (rounded-fits (b 0) (h.im 0)) (rounded-fits (a 1) (h.re 1)) (rounded-fits (b 1) (h.im 1))
+    (rounded-fits (a 2) (h.re 2)) (rounded-fits (b 2) (h.im 2)) (rounded-fits (a 3) (h.re 3)) (rounded-fits (b 3) (h.im 3)) (omega (arith, ints)))

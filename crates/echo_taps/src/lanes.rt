@@ -9,6 +9,7 @@ ghost use Rattle.fixed_complex.specs.Samples.{sample_at};
 ghost use Rattle.lane_kernels.specs.Lanes.{AreOf16Bits, components_of, eight, four};
 
 use fixed_complex::{Cx, Sample};
+use lane_kernels::lanes::{components, held_numbers, products};
 use std::simd::prelude::*;
 
 // The real parts and the imaginary parts of four sums.
@@ -118,32 +119,6 @@ fn tap_lanes(tap: Cx) -> TapLanes
     }
 }
 
-// The components of four samples in the order of memory.
-#[inline(always)]
-fn components(a: &[Sample]) -> [i16; 8]
-    requires { length a.now ≡ 4 }
-    ensures value { result ≡ components_of (sample_at a.now) }
-    ensures of_16_bits { AreOf16Bits result }
-{
-    [
-        a[0].i, a[0].q, a[1].i, a[1].q, a[2].i, a[2].q, a[3].i, a[3].q,
-    ]
-}
-
-// The products of eight and eight numbers.
-#[inline(always)]
-fn products(x: [i16; 8], y: [i16; 8]) -> [i32; 8]
-    requires x { AreOf16Bits x }
-    requires y { AreOf16Bits y }
-    ensures { result ≡ eight (λ n. number_at x n *ℤ number_at y n) }
-{
-    let (x, y) = (
-        i16x8::from_array(x).cast::<i32>(),
-        i16x8::from_array(y).cast::<i32>(),
-    );
-    x.strict_mul(y).to_array()
-}
-
 // Four sums, each with the sum of two neighbours more.
 #[inline(always)]
 fn added(sums: [i32; 4], products: [i32; 8]) -> [i32; 4]
@@ -171,8 +146,8 @@ pub(crate) fn held_samples(block: Block) -> [Sample; 16]
     requires fourth { IsFourWithin (2 ^ 29) block.fourth }
     ensures { result ≡ held_block block }
 {
-    let (a, b) = (held_numbers(block.first), held_numbers(block.second));
-    let (c, d) = (held_numbers(block.third), held_numbers(block.fourth));
+    let (a, b) = (held_parts(block.first), held_parts(block.second));
+    let (c, d) = (held_parts(block.third), held_parts(block.fourth));
     [
         Sample { i: a[0], q: a[1] },
         Sample { i: a[2], q: a[3] },
@@ -195,17 +170,12 @@ pub(crate) fn held_samples(block: Block) -> [Sample; 16]
 
 // The components of four sums over 1024 in the order of memory, rounded half up and held.
 #[inline(always)]
-fn held_numbers(sums: Four) -> [i16; 8]
+fn held_parts(sums: Four) -> [i16; 8]
     requires { IsFourWithin (2 ^ 29) sums }
     ensures { result ≡ held_parts sums }
 {
     let (re, im) = (i32x4::from_array(sums.re), i32x4::from_array(sums.im));
     let parts = re.shuffle(im, [0, 4, 1, 5, 2, 6, 3, 7]);
     let rounded = parts.strict_add(i32x8::splat(512)) >> i32x8::splat(10);
-    let (least, most) = (i32x8::splat(-32768), i32x8::splat(32767));
-    rounded
-        .simd_min(most)
-        .simd_max(least)
-        .cast::<i16>()
-        .to_array()
+    held_numbers(rounded.to_array())
 }

@@ -1,13 +1,13 @@
 //! The text of `receive`, in room that is taken before.
-ghost use Rattle.std.specs.Prelude.{◌≡◌, ◌↔◌, ◌+◌, ◌*◌, ◌≤◌, ◌++◌, [], decimal, length, IfOk, IsTrue};
-ghost use Rattle.finding_lines.specs.Lines.{cut_line, frame_line, most_text, spaced};
-ghost use Rattle.hex.specs.Hex.{encode_lower};
+ghost use Rattle.std.specs.Prelude.{◌≡◌, ◌↔◌, ◌+◌, ◌*◌, ◌≤◌, ◌++◌, [], length, vec_len, IfOk, IsOk, IsTrue, OnOk};
+ghost use Rattle.std.specs.Vec.{vec_capacity};
+ghost use Rattle.finding_lines.specs.Lines.{cut_line, frame_line, most_text};
 ghost use Rattle.rate_table.specs.Symbols.{most_octets};
 
+use crate::frames::push_frame;
+use crate::texts::{push_number, push_spaced};
 use frame_findings::Cut;
-use hex::encode_to_slice;
-use itoa::Buffer;
-use rate_table::{MOST_OCTETS, Rate};
+use rate_table::Rate;
 use std::alloc::{AllocError, Global};
 use std::marker::Model;
 
@@ -57,13 +57,7 @@ impl Lines {
         }) }
         ensures short { length self.new ≤ length self.old + 2 * length psdu.now + 51 }
     {
-        self.put(b"frame ");
-        self.put_spaced(start);
-        self.put_spaced(rate.mbps());
-        self.put_spaced(u32::from(octets));
-        self.put_spaced(u32::from(seed));
-        self.put_octets(psdu);
-        self.put(b"\n");
+        push_frame(&mut self.text, start, rate, octets, seed, psdu).unwrap();
     }
 
     /// Puts the line of a cut behind the others: `cut START HAVE NEED` (own). There is room for 37 bytes
@@ -73,11 +67,7 @@ impl Lines {
         ensures line { self.new ≡ self.old ++ cut_line cut }
         ensures short { length self.new ≤ length self.old + 37 }
     {
-        self.put(b"cut ");
-        self.put_spaced(cut.start);
-        self.put_spaced(cut.have);
-        self.put_number(cut.need);
-        self.put(b"\n");
+        push_cut(&mut self.text, cut).unwrap();
     }
 
     /// Whether there are no lines. Takes no memory.
@@ -93,46 +83,18 @@ impl Lines {
     {
         self.text
     }
+}
 
-    // Puts bytes behind the text.
-    fn put(&mut self, bytes: &[u8])
-        requires { length self.old + length bytes.now ≤ most_text }
-        ensures value { self.new ≡ self.old ++ bytes.now }
-        ensures len { length self.new ≡ length self.old + length bytes.now }
-    {
-        self.text.extend_from_slice(bytes).unwrap();
-    }
-
-    // Puts a number in decimal behind the text.
-    fn put_number(&mut self, number: u32)
-        requires { length self.old + 10 ≤ most_text }
-        ensures value { self.new ≡ self.old ++ decimal number }
-        ensures len { length self.new ≤ length self.old + 10 }
-    {
-        let mut buffer = Buffer::new();
-        self.put(buffer.format(number).as_bytes());
-    }
-
-    // Puts a number in decimal, and a space, behind the text.
-    fn put_spaced(&mut self, number: u32)
-        requires { length self.old + 11 ≤ most_text }
-        ensures value { self.new ≡ self.old ++ spaced number }
-        ensures len { length self.new ≤ length self.old + 11 }
-    {
-        self.put_number(number);
-        self.put(b" ");
-    }
-
-    // Puts octets in lower-case hexadecimal behind the text.
-    fn put_octets(&mut self, octets: &[u8])
-        requires octets { length octets.now ≤ most_octets }
-        requires room { length self.old + 2 * length octets.now ≤ most_text }
-        ensures value { self.new ≡ self.old ++ encode_lower octets.now }
-        ensures len { length self.new ≡ length self.old + 2 * length octets.now }
-    {
-        let mut digits = [0; 2 * MOST_OCTETS as usize];
-        let digits = &mut digits[..2 * octets.len()];
-        encode_to_slice(octets, digits).unwrap();
-        self.put(digits);
-    }
+// Appends the line of a cut: at most 37 bytes.
+fn push_cut(text: &mut Vec<u8>, cut: Cut) -> Result<(), AllocError>
+    ensures line { OnOk result (text.new.items ≡ text.old.items ++ cut_line cut) }
+    ensures len { OnOk result (vec_len text.new ≤ vec_len text.old + 37) }
+    ensures room { vec_len text.old + 37 ≤ vec_capacity text.old → IsOk result }
+    ensures capacity { vec_capacity text.old ≤ vec_capacity text.new }
+{
+    text.extend_from_slice(b"cut ")?;
+    push_spaced(text, cut.start)?;
+    push_spaced(text, cut.have)?;
+    push_number(text, cut.need)?;
+    text.extend_from_slice(b"\n")
 }

@@ -1,10 +1,11 @@
-//! The line of one frame, in a text of its own.
-ghost use Rattle.std.specs.Prelude.{◌≡◌, ◌++◌, IfOk, OnOk};
+//! The line of one frame.
+ghost use Rattle.std.specs.Prelude.{◌≡◌, ◌+◌, ◌*◌, ◌≤◌, ◌++◌, length, vec_len, IfOk, IsOk, OnOk};
+ghost use Rattle.std.specs.Vec.{vec_capacity};
 ghost use Rattle.finding_lines.specs.Lines.{frame_line};
-ghost use Rattle.hex.specs.Hex.{encode_lower};
 
-use crate::reports::push_spaced;
+use crate::texts::{push_octets, push_spaced};
 use frame_findings::Heard;
+use rate_table::Rate;
 use std::alloc::{AllocError, Global};
 
 /// The line of a frame: `frame START MBPS LENGTH SEED HEX` (own). The only error is want of memory.
@@ -12,20 +13,42 @@ pub fn frame_text(alloc: Global, heard: &Heard) -> Result<Vec<u8>, AllocError>
     ensures { IfOk result (λ text. text.items ≡ frame_line heard.now) }
 {
     let mut text = Vec::new(alloc);
-    text.extend_from_slice(b"frame ")?;
-    push_spaced(&mut text, heard.start)?;
-    push_spaced(&mut text, heard.rate.mbps())?;
-    push_spaced(&mut text, u32::from(heard.length))?;
-    push_spaced(&mut text, u32::from(heard.seed))?;
-    push_octets(alloc, &mut text, heard.psdu.as_slice())?;
-    text.extend_from_slice(b"\n")?;
+    push_frame(
+        &mut text,
+        heard.start,
+        heard.rate,
+        heard.length,
+        heard.seed,
+        heard.psdu.as_slice(),
+    )?;
     Ok(text)
 }
 
-// Appends octets in lower-case hexadecimal.
-fn push_octets(alloc: Global, text: &mut Vec<u8>, octets: &[u8]) -> Result<(), AllocError>
-    ensures { OnOk result (text.new.items ≡ text.old.items ++ encode_lower octets.now) }
+// Appends the line of a frame: at most twice as many bytes as octets, and 51 more.
+pub(crate) fn push_frame(
+    text: &mut Vec<u8>,
+    start: u32,
+    rate: Rate,
+    octets: u16,
+    seed: u8,
+    psdu: &[u8],
+) -> Result<(), AllocError>
+    ensures line { OnOk result (text.new.items ≡ text.old.items ++ frame_line (record {
+      start = start;
+      rate = rate;
+      length = octets;
+      seed = seed;
+      psdu = psdu.now;
+    })) }
+    ensures len { OnOk result (vec_len text.new ≤ vec_len text.old + 2 * length psdu.now + 51) }
+    ensures room { vec_len text.old + 2 * length psdu.now + 51 ≤ vec_capacity text.old → IsOk result }
+    ensures capacity { vec_capacity text.old ≤ vec_capacity text.new }
 {
-    let digits = hex::encode(alloc, octets)?;
-    text.extend_from_slice(digits.as_bytes())
+    text.extend_from_slice(b"frame ")?;
+    push_spaced(text, start)?;
+    push_spaced(text, rate.mbps())?;
+    push_spaced(text, u32::from(octets))?;
+    push_spaced(text, u32::from(seed))?;
+    push_octets(text, psdu)?;
+    text.extend_from_slice(b"\n")
 }

@@ -7,6 +7,7 @@ pub mod laws;
 mod reports;
 #[cfg(test)]
 mod tests;
+mod texts;
 
 pub use findings::Lines;
 pub use frames::frame_text;

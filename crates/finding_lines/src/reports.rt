@@ -1,9 +1,9 @@
 //! The text of `inspect`.
-ghost use Rattle.std.specs.Prelude.{◌≡◌, ◌++◌, decimal, IfOk, OnOk};
-ghost use Rattle.finding_lines.specs.Lines.{finding_words, report_line, spaced, text_of_reports};
+ghost use Rattle.std.specs.Prelude.{◌≡◌, ◌++◌, IfOk, OnOk};
+ghost use Rattle.finding_lines.specs.Lines.{finding_words, report_line, text_of_reports};
 
+use crate::texts::{push_number, push_spaced};
 use frame_findings::{EdgeReport, Finding};
-use itoa::Buffer;
 use std::alloc::{AllocError, Global};
 
 /// The lines of reports, one after another (own): `edge P` and then `short`, `nomatch`, `badparity`,
@@ -53,20 +53,4 @@ fn push_finding(text: &mut Vec<u8>, finding: &Finding) -> Result<(), AllocError>
             push_number(text, u32::from(*reserved))
         }
     }
-}
-
-// Appends a number in decimal.
-fn push_number(text: &mut Vec<u8>, number: u32) -> Result<(), AllocError>
-    ensures { OnOk result (text.new.items ≡ text.old.items ++ decimal number) }
-{
-    let mut buffer = Buffer::new();
-    text.extend_from_slice(buffer.format(number).as_bytes())
-}
-
-// Appends a number in decimal, and a space.
-pub(crate) fn push_spaced(text: &mut Vec<u8>, number: u32) -> Result<(), AllocError>
-    ensures { OnOk result (text.new.items ≡ text.old.items ++ spaced number) }
-{
-    push_number(text, number)?;
-    text.extend_from_slice(b" ")
 }

@@ -55,6 +55,16 @@ times_zero w = same_parts _ _ (re w.re w.im) (im w.re w.im)
     im : (p q : ℤ) → p *ℤ pos 0 +ℤ q *ℤ pos 0 ≡ pos 0
     im = ring 2 (λ p q. p ⊗ number (pos 0) ⊕ q ⊗ number (pos 0) ≗ number (pos 0)) refl
 
+pub zero_times : (w : Cx) → times zero_pair w ≡ zero_pair
+unfolding times
+zero_times w = same_parts _ _ (re w.re w.im) (im w.re w.im)
+  where
+    re : (p q : ℤ) → pos 0 *ℤ p -ℤ pos 0 *ℤ q ≡ pos 0
+    re = ring 2 (λ p q. number (pos 0) ⊗ p ⊖ number (pos 0) ⊗ q ≗ number (pos 0)) refl
+
+    im : (p q : ℤ) → pos 0 *ℤ q +ℤ pos 0 *ℤ p ≡ pos 0
+    im = ring 2 (λ p q. number (pos 0) ⊗ q ⊕ number (pos 0) ⊗ p ≗ number (pos 0)) refl
+
 multiple_plus : (c : ℤ) (a b : Cx) → multiple c (plus a b) ≡ plus (multiple c a) (multiple c b)
 multiple_plus c a b = same_parts _ _ (law c a.re b.re) (law c a.im b.im)
   where

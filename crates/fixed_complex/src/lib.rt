@@ -1,8 +1,8 @@
 //! Whole-number pairs, the samples of a capture, rounding, and the turns of a circle (own). No call takes memory.
 #![tactic(auto)]
 
-ghost use Rattle.std.specs.Prelude.{◌≡◌, ◌*◌, ◌^◌, ◌<◌, ◌≤◌, ◌*ℤ◌, unsigned_abs};
-ghost use Rattle.fixed_complex.specs.Pairs.{IsWithin, conjugate, minus, plus, scaled_product, times};
+ghost use Rattle.std.specs.Prelude.{◌≡◌, ℕ, ◌*◌, ◌^◌, ◌<◌, ◌≤◌, ◌*ℤ◌, unsigned_abs};
+ghost use Rattle.fixed_complex.specs.Pairs.{IsWithin, conjugate, minus, multiple, plus, scaled_product, times};
 ghost use Rattle.fixed_complex.specs.Rounding.{half_up};
 ghost use Rattle.fixed_complex.specs.Turns.{cosine_at, turn_at};
 
@@ -66,6 +66,29 @@ pub fn conj(a: Cx) -> Cx
         re: a.re,
         im: -a.im,
     }
+}
+
+/// A pair times a sign, which is -1, 0 or 1. Components are at most 2^61 in size, and none grows (own).
+pub fn signed(sign: i64, z: Cx) -> Cx
+    requires sign { unsigned_abs sign ≤ 1 }
+    requires pair { IsWithin (2 ^ 61) z }
+    ensures value { result ≡ multiple sign z }
+    ensures within { (bound : ℕ) → IsWithin bound z → IsWithin bound result }
+{
+    Cx {
+        re: signed_part(sign, z.re),
+        im: signed_part(sign, z.im),
+    }
+}
+
+// A number times a sign.
+fn signed_part(sign: i64, part: i64) -> i64
+    requires sign { unsigned_abs sign ≤ 1 }
+    requires part { unsigned_abs part ≤ 2 ^ 61 }
+    ensures value { result ≡ sign *ℤ part }
+    ensures within { unsigned_abs result ≤ unsigned_abs part }
+{
+    sign * part
 }
 
 /// The product of two pairs whose components are at most 2^30 in size (own).

@@ -1,5 +1,5 @@
 -- The greater and the lesser of numbers of 16 bits, lane by lane, and what bounds on them say of samples.
-use Rattle.std.proofs.Common.{◌≡◌, inl, inr, ℕ, zero, suc, ◌+◌, ◌-◌, ◌<◌, ◌≤◌, List, [], ◌∷◌, map, length, Bool, true, false, cond, ℤ, pos, neg_ℤ, ◌≤ℤ◌, to_z, of_z, refl, ap, ◌∙◌, arith}
+use Rattle.std.proofs.Common.{◌≡◌, inl, inr, ℕ, zero, suc, ◌+◌, ◌-◌, ◌<◌, ◌≤◌, List, [], ◌∷◌, map, Bool, true, false, cond, ℤ, pos, neg_ℤ, ◌≤ℤ◌, to_z, of_z, refl, ap, ◌∙◌, arith}
 use Rattle.std.specs.Prelude.{FitsSigned, int_lt, nat_lt, unsigned_abs}
 use Rattle.std.specs.Int.{int_max, int_min}
 use Rattle.std.specs.List.{slice_range}
@@ -16,7 +16,7 @@ use Rattle.fixed_complex.specs.Samples.{sample_at}
 use Rattle.lane_kernels.specs.Kernels.{is_loud}
 use Rattle.lane_kernels.specs.Lanes.{AreOf16Bits, components_of, eight}
 use Rattle.lane_kernels.proofs.FourLanes.{first_four}
-use Rattle.lane_kernels.proofs.LaneSums.{eight_of}
+use Rattle.lane_kernels.proofs.LaneSums.{to_z-cond}
 use Rattle.lane_kernels.proofs.Totals.{eight-at}
 use Rattle.lane_kernels.proofs.Wholes.{sample-chunk}
 
@@ -35,10 +35,6 @@ picked : (t : Bool) → top 15 (cond t 65535 0) ≡ t
 picked true = refl
 picked false = refl
 
-to_z-cond : (t : Bool) (m n : ℕ) → to_z w16 (cond t m n) ≡ cond t (to_z w16 m) (to_z w16 n)
-to_z-cond true m n = refl
-to_z-cond false m n = refl
-
 max-of : (a b : ℤ) → cond (int_lt a b) b a ≡ int_max a b
 max-of a b = grind (arith, ints)
 
@@ -47,11 +43,11 @@ min-of a b = grind (arith, ints)
 
 max-lane : (a b : ℤ) → FitsSigned w16 a → FitsSigned w16 b → to_z w16 (cond (top 15 (cond (int_lt (to_z w16 (of_z w16 a)) (to_z w16 (of_z w16 b))) 65535 0)) (of_z w16 b) (of_z w16 a)) ≡ int_max a b
 max-lane a b h k =
-    rw (picked (int_lt (to_z w16 (of_z w16 a)) (to_z w16 (of_z w16 b))), to_z-cond (int_lt (to_z w16 (of_z w16 a)) (to_z w16 (of_z w16 b))) (of_z w16 b) (of_z w16 a), to_z-of_z w16 a h, to_z-of_z w16 b k) (max-of a b)
+    rw (picked (int_lt (to_z w16 (of_z w16 a)) (to_z w16 (of_z w16 b))), to_z-cond w16 (int_lt (to_z w16 (of_z w16 a)) (to_z w16 (of_z w16 b))) (of_z w16 b) (of_z w16 a), to_z-of_z w16 a h, to_z-of_z w16 b k) (max-of a b)
 
 min-lane : (a b : ℤ) → FitsSigned w16 a → FitsSigned w16 b → to_z w16 (cond (top 15 (cond (int_lt (to_z w16 (of_z w16 a)) (to_z w16 (of_z w16 b))) 65535 0)) (of_z w16 a) (of_z w16 b)) ≡ int_min a b
 min-lane a b h k =
-    rw (picked (int_lt (to_z w16 (of_z w16 a)) (to_z w16 (of_z w16 b))), to_z-cond (int_lt (to_z w16 (of_z w16 a)) (to_z w16 (of_z w16 b))) (of_z w16 a) (of_z w16 b), to_z-of_z w16 a h, to_z-of_z w16 b k) (min-of a b)
+    rw (picked (int_lt (to_z w16 (of_z w16 a)) (to_z w16 (of_z w16 b))), to_z-cond w16 (int_lt (to_z w16 (of_z w16 a)) (to_z w16 (of_z w16 b))) (of_z w16 a) (of_z w16 b), to_z-of_z w16 a h, to_z-of_z w16 b k) (min-of a b)
 
 pub greater-are : (x y : List ℤ) → AreOf16Bits x → AreOf16Bits y → greater_lanes x y ≡ zip2 int_max x y
 greater-are [] y h k = refl
@@ -68,10 +64,6 @@ lesser-are (a ∷ x) (b ∷ y) h k =
     let here = min-lane a b (h 0) (k 0) in
     let rest = lesser-are x y (λ n. h (suc n)) (λ n. k (suc n)) in
     λ i. here i ∷ rest i
-
-pub eight_by : (f : ℤ → ℤ → ℤ) (x y : List ℤ) → length x ≡ 8 → length y ≡ 8 → zip2 f x y ≡ eight (λ n. f (number_at x n) (number_at y n))
-eight_by f x y h k =
-    ap (λ l. zip2 f l y) (eight_of x h) ∙ ap (λ l. zip2 f (eight (number_at x)) l) (eight_of y k)
 
 either-fits : (t : Bool) (a b : ℤ) → FitsSigned w16 a → FitsSigned w16 b → FitsSigned w16 (cond t a b)
 either-fits true a b h k = h

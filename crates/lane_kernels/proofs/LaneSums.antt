@@ -1,7 +1,9 @@
 -- Eight lanes, and numbers of 64 bits as the code keeps them.
-use Rattle.std.proofs.Common.{◌≡◌, ℕ, ◌^◌, ◌<◌, ◌≤◌, List, [], ◌∷◌, length, ℤ, ◌+ℤ◌, ◌*ℤ◌, to_z, of_z, w64, refl, arith}
+use Rattle.std.proofs.Common.{◌≡◌, ℕ, ◌^◌, ◌<◌, ◌≤◌, List, [], ◌∷◌, length, Bool, true, false, cond, ℤ, ◌+ℤ◌, ◌*ℤ◌, to_z, of_z, w64, refl, ap, ◌∙◌, arith}
 use Rattle.std.specs.Prelude.{unsigned_abs}
+use Rattle.std.specs.Simd.Lanes.{zip2}
 use Rattle.std.proofs.lemmas.Int.{ints, to_z-of_z, fits_signed_from_abs, unsigned_abs-mul}
+use mir.Syntax.{Width}
 use Rattle.lane_kernels.specs.Lanes.{eight}
 use Rattle.fixed_complex.specs.Numbers.{number_at}
 use Rattle.std.proofs.Math.Nat.{mul-le-mul}
@@ -18,6 +20,16 @@ eight_of (a ∷ b ∷ c ∷ d ∷ e ∷ f ∷ []) h = absurd (omega arith)
 eight_of (a ∷ b ∷ c ∷ d ∷ e ∷ f ∷ g ∷ []) h = absurd (omega arith)
 eight_of (a ∷ b ∷ c ∷ d ∷ e ∷ f ∷ g ∷ k ∷ []) h = refl
 eight_of (a ∷ b ∷ c ∷ d ∷ e ∷ f ∷ g ∷ k ∷ l ∷ r) h = absurd (omega arith)
+
+-- what is made of eight and eight numbers, lane by lane
+pub eight_by : (f : ℤ → ℤ → ℤ) (x y : List ℤ) → length x ≡ 8 → length y ≡ 8 → zip2 f x y ≡ eight (λ n. f (number_at x n) (number_at y n))
+eight_by f x y h k =
+    ap (λ l. zip2 f l y) (eight_of x h) ∙ ap (λ l. zip2 f (eight (number_at x)) l) (eight_of y k)
+
+-- the number of bits that are chosen is the number chosen
+pub to_z-cond : (w : Width) (t : Bool) (m n : ℕ) → to_z w (cond t m n) ≡ cond t (to_z w m) (to_z w n)
+to_z-cond w true m n = refl
+to_z-cond w false m n = refl
 
 -- a number of 64 bits, as a lane keeps it
 abbrev pub kept : ℤ → ℤ

@@ -25,7 +25,8 @@ wide-is z h = omega (arith, ints)
 product-fits : (z : ℤ) → IsProduct z → FitsSigned w32 z
 product-fits z h = omega (arith, ints, h.low, h.high)
 
-abbrev wide : List ℤ → List ℕ
+-- and numbers in lanes
+abbrev pub wide : List ℤ → List ℕ
 wide xs = map (act1 (cast signed signed w32) (s_int w16) (s_int w32)) (map (of_z w16) xs)
 
 pub products_fit : (x y : List ℤ) → AreOf16Bits x → AreOf16Bits y → Each2 (Asks2 (mul signed) (s_int w32) (s_int w32)) (wide x) (wide y)
@@ -44,10 +45,6 @@ products_are (a ∷ x) (b ∷ y) h k =
     let here : to_z w32 (of_z w32 (wide_lane a *ℤ wide_lane b)) ≡ a *ℤ b =
     rw (wide-is a (h 0), wide-is b (k 0)) (to_z-of_z w32 (a *ℤ b) (product-fits (a *ℤ b) (product-bounds a b (h 0) (k 0)))) in
     λ i. here i ∷ rest i
-
-pub eight_products : (x y : List ℤ) → length x ≡ 8 → length y ≡ 8 → zip2 ◌*ℤ◌ x y ≡ eight (λ n. number_at x n *ℤ number_at y n)
-eight_products x y h k =
-    ap (λ l. zip2 ◌*ℤ◌ l y) (eight_of x h) ∙ ap (λ l. zip2 ◌*ℤ◌ (eight (number_at x)) l) (eight_of y k)
 
 -- the even and the odd lanes of eight numbers
 abbrev pub evens : List ℕ → List ℕ

@@ -4,7 +4,7 @@ use Rattle.fixed_complex.specs.declared.Sample.{Sample}
 use Rattle.lane_kernels.specs.Kernels.{held_sum}
 use Rattle.fixed_complex.specs.Samples.{sample_at}
 use Rattle.fixed_complex.specs.Numbers.{number_at}
-use Rattle.std.specs.Int.{w16}
+use Rattle.std.specs.Int.{w16, w32}
 
 -- one entry for each of four lanes, and of eight
 abbrev pub four : {X : Type 0} → (ℕ → X) → List X
@@ -13,9 +13,12 @@ four f = f 0 ∷ f 1 ∷ f 2 ∷ f 3 ∷ []
 abbrev pub eight : {X : Type 0} → (ℕ → X) → List X
 eight f = f 0 ∷ f 1 ∷ f 2 ∷ f 3 ∷ f 4 ∷ f 5 ∷ f 6 ∷ f 7 ∷ []
 
--- each number is a signed one of 16 bits
+-- each number is a signed one of 16 bits, and of 32
 abbrev pub AreOf16Bits : List ℤ → Type 0
 AreOf16Bits numbers = (n : ℕ) → FitsSigned w16 (number_at numbers n)
+
+abbrev pub AreOf32Bits : List ℤ → Type 0
+AreOf32Bits numbers = (n : ℕ) → FitsSigned w32 (number_at numbers n)
 
 -- the components of four samples in the order of memory
 abbrev pub components_of : (ℕ → Sample) → List ℤ

@@ -1,15 +1,16 @@
 //! Four samples' components in lanes, and sums of products of neighbours.
 ghost use Rattle.std.specs.Prelude.{◌≡◌, ℕ, ◌+◌, ◌*◌, ◌^◌, ◌≤◌, length, map, ℤ, pos, ◌+ℤ◌, ◌*ℤ◌, unsigned_abs};
 ghost use Rattle.fixed_complex.specs.Samples.{sample_at};
-ghost use Rattle.lane_kernels.specs.Lanes.{AreOf16Bits, AreProducts, components_of, eight, four, total_of};
+ghost use Rattle.lane_kernels.specs.Kernels.{held};
+ghost use Rattle.lane_kernels.specs.Lanes.{AreOf16Bits, AreOf32Bits, AreProducts, components_of, eight, four, total_of};
 ghost use Rattle.fixed_complex.specs.Numbers.{NumbersWithin, number_at};
 
 use fixed_complex::Sample;
 use std::simd::prelude::*;
 
-// The components of four samples in the order of memory.
+/// The components of four samples in the order of memory (own).
 #[inline(always)]
-pub(crate) fn components(a: &[Sample]) -> [i16; 8]
+pub fn components(a: &[Sample]) -> [i16; 8]
     requires { length a.now ≡ 4 }
     ensures value { result ≡ components_of (sample_at a.now) }
     ensures of_16_bits { AreOf16Bits result }
@@ -19,9 +20,9 @@ pub(crate) fn components(a: &[Sample]) -> [i16; 8]
     ]
 }
 
-// The products of eight and eight numbers.
+/// The products of eight and eight numbers, place by place (own).
 #[inline(always)]
-pub(crate) fn products(x: [i16; 8], y: [i16; 8]) -> [i32; 8]
+pub fn products(x: [i16; 8], y: [i16; 8]) -> [i32; 8]
     requires x { AreOf16Bits x }
     requires y { AreOf16Bits y }
     ensures { result ≡ eight (λ n. number_at x n *ℤ number_at y n) }
@@ -31,6 +32,20 @@ pub(crate) fn products(x: [i16; 8], y: [i16; 8]) -> [i32; 8]
         i16x8::from_array(y).cast::<i32>(),
     );
     x.strict_mul(y).to_array()
+}
+
+/// Eight numbers, each held within -32768 to 32767 (own).
+#[inline(always)]
+pub fn held_numbers(numbers: [i32; 8]) -> [i16; 8]
+    requires { AreOf32Bits numbers }
+    ensures { result ≡ eight (λ n. held (number_at numbers n)) }
+{
+    let (least, most) = (i32x8::splat(-32768), i32x8::splat(32767));
+    i32x8::from_array(numbers)
+        .simd_min(most)
+        .simd_max(least)
+        .cast::<i16>()
+        .to_array()
 }
 
 // The sums of neighbours, and 2^31 - 2 with each: from 2^16 - 2 to 2^32 - 2.

@@ -2,7 +2,7 @@
 //! have at most 2^24 entries. No call takes memory.
 #![tactic(auto)]
 
-mod lanes;
+pub mod lanes;
 mod loudness;
 mod powers;
 mod products;

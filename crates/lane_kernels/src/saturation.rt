@@ -4,7 +4,7 @@ ghost use Rattle.lane_kernels.specs.Kernels.{held, held_sum, held_sums};
 ghost use Rattle.lane_kernels.specs.Lanes.{AreOf16Bits, HoldsSums, eight};
 ghost use Rattle.fixed_complex.specs.Numbers.{number_at};
 
-use crate::lanes::components;
+use crate::lanes::{components, held_numbers};
 use fixed_complex::Sample;
 use std::simd::prelude::*;
 
@@ -73,10 +73,5 @@ fn add_lanes(x: [i16; 8], y: [i16; 8]) -> [i16; 8]
         i16x8::from_array(x).cast::<i32>(),
         i16x8::from_array(y).cast::<i32>(),
     );
-    let (least, most) = (i32x8::splat(-32768), i32x8::splat(32767));
-    x.strict_add(y)
-        .simd_min(most)
-        .simd_max(least)
-        .cast::<i16>()
-        .to_array()
+    held_numbers(x.strict_add(y).to_array())
 }

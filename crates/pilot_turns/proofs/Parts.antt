@@ -4,11 +4,12 @@ use mir.Syntax.{w128}
 use Rattle.std.proofs.Math.ListN.{get_or-map}
 use Rattle.std.proofs.lemmas.Int.{ints, to_z-of_z, fits_signed_from_abs, fits_signed_mul}
 use Rattle.std.specs.Prelude.{slice_index_or, FitsSigned}
-use Rattle.integer_laws.proofs.Ring.{negated, number, ring, ◌⊕◌, ◌⊖◌, ◌⊗◌, ◌≗◌}
+use Rattle.integer_laws.proofs.Ring.{negated, ring, ◌⊕◌, ◌⊖◌, ◌⊗◌, ◌≗◌}
 use Rattle.fixed_complex.specs.declared.Cx.{Cx}
 use Rattle.fixed_complex.specs.PairLists.{entry}
 use Rattle.fixed_complex.specs.Pairs.{conjugate, multiple, times, zero_pair}
 use Rattle.fixed_complex.proofs.Pairs.{same_parts}
+use Rattle.fixed_complex.proofs.Sums.{zero_times}
 use Rattle.pilot_turns.specs.Pilots.{turn_part}
 use Rattle.pilot_turns.specs.Turned.{turned_carriers, turned_channels}
 
@@ -41,19 +42,9 @@ multiple_out n a b = same_parts _ _ (re n a.re a.im b.re b.im) (im n a.re a.im b
     im = ring 5 (λ n a b u v. (n ⊗ a) ⊗ negated v ⊕ (n ⊗ b) ⊗ u ≗ n ⊗ (a ⊗ negated v ⊕ b ⊗ u)) refl
 
 -- the entries of turned lists
-times_none : (turn : Cx) → times zero_pair turn ≡ zero_pair
-unfolding times
-times_none turn = same_parts _ _ (re turn.re turn.im) (im turn.re turn.im)
-  where
-    re : (p q : ℤ) → pos 0 *ℤ p -ℤ pos 0 *ℤ q ≡ pos 0
-    re = ring 2 (λ p q. number (pos 0) ⊗ p ⊖ number (pos 0) ⊗ q ≗ number (pos 0)) refl
-
-    im : (p q : ℤ) → pos 0 *ℤ q +ℤ pos 0 *ℤ p ≡ pos 0
-    im = ring 2 (λ p q. number (pos 0) ⊗ q ⊕ number (pos 0) ⊗ p ≗ number (pos 0)) refl
-
 pub channel_entry : (turn : Cx) (estimate : List Cx) (bin : ℕ) → entry (turned_channels turn estimate) bin ≡ times (entry estimate bin) turn
 channel_entry turn estimate bin =
-    ap (slice_index_or (map (λ channel. times channel turn) estimate) bin) (sym (times_none turn)) ∙ get_or-map (λ channel. times channel turn) estimate bin zero_pair
+    ap (slice_index_or (map (λ channel. times channel turn) estimate) bin) (sym (zero_times turn)) ∙ get_or-map (λ channel. times channel turn) estimate bin zero_pair
 
 pub carrier_entry : (symbol : List Cx) (bin : ℕ) → entry (turned_carriers symbol) bin ≡ multiple (pos 16384) (entry symbol bin)
 carrier_entry symbol bin =

@@ -8,7 +8,7 @@ ghost use Rattle.pilot_turns.specs.Pilots.{pilot_back, pilot_carrier, sign_of_pi
 
 use carrier_bins::bin;
 use carrier_equaliser::Estimate;
-use fixed_complex::{Cx, add, conj, mul};
+use fixed_complex::{Cx, add, conj, mul, signed};
 use symbol_builder::polarity;
 
 /// The turn of symbol n by its four pilots, over 16384: the sum of what was received of them times the conjugate of the
@@ -52,21 +52,7 @@ fn pilot(estimate: &Estimate, symbol: &[Cx; 64], n: u32, k: usize) -> Cx
 {
     let carrier = carrier(k);
     let back = mul(symbol[bin(carrier)], conj(estimate.at(carrier)));
-    let sign = sign(n, k);
-    Cx {
-        re: signed(sign, back.re),
-        im: signed(sign, back.im),
-    }
-}
-
-// A number times a sign.
-fn signed(sign: i64, part: i64) -> i64
-    requires sign { unsigned_abs sign ≤ 1 }
-    requires part { unsigned_abs part ≤ 2 ^ 46 }
-    ensures value { result ≡ sign *ℤ part }
-    ensures within { unsigned_abs result ≤ 2 ^ 46 }
-{
-    sign * part
+    signed(sign(n, k), back)
 }
 
 // The sign of pilot k in symbol n.

@@ -102,7 +102,8 @@ pub fn lesser(first: u8x64, second: u8x64) -> u8x64
     first.simd_min(second)
 }
 
-/// Takes the least of the entries off all of them but 255, where the first is above a limit. Answers how much that is.
+/// Takes the least of the entries off all of them but 255, where the first is above a limit. Answers how much that is, so
+/// 0 where the first is at most the limit.
 pub fn lower_above(entries: &mut [u8; 64], limit: u8) -> u8
     ensures within { (s : ℕ) → s < 64 → result ≤ slice_index entries.old s }
     ensures lowered { (s : ℕ) → s < 64 → slice_index entries.old s < 255
@@ -110,6 +111,7 @@ pub fn lower_above(entries: &mut [u8; 64], limit: u8) -> u8
     ensures kept { (s : ℕ) → s < 64 → slice_index entries.old s ≡ 255
         → slice_index entries.new s ≡ 255 }
     ensures entries { AreEntries entries.new }
+    ensures none { slice_index entries.old 0 ≤ limit → result ≡ 0 }
     ensures low { (slice_index entries.old 0 ≤ limit)
         ⊎ ((s : ℕ) × (s < 64) × (slice_index entries.old s ≡ result)) }
 {

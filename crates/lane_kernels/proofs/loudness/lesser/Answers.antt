@@ -1,7 +1,8 @@
 use Rattle.std.proofs.Common.{sym, subst, ◌∙◌, arith}
 use Rattle.std.specs.Int.{int_min}
 use Rattle.lane_kernels.specs.Lanes.{AreOf16Bits}
-use Rattle.lane_kernels.proofs.Extremes.{eight_by, lesser-are, min-fits, zip2-of_16_bits}
+use Rattle.lane_kernels.proofs.Extremes.{lesser-are, min-fits, zip2-of_16_bits}
+use Rattle.lane_kernels.proofs.LaneSums.{eight_by}
 use Rattle.lane_kernels.proofs.loudness.lesser.Goals as goal
 
 pub returns : goal.returns
