@@ -1,3 +1,4 @@
 pub mod ComingBack
 pub mod Places
+pub mod Numbers
 mod Silent

@@ -66,6 +66,15 @@ impl Estimate {
         self.bins[bin(carrier)]
     }
 
+    /// The estimate in a bin below 64, each component at most 2^23 in size (own). Takes no memory.
+    pub fn in_bin(&self, bin: usize) -> Cx
+        requires { bin < 64 }
+        ensures value { result ≡ entry self.now bin }
+        ensures within { IsWithin (2 ^ 23) result }
+    {
+        self.bins[bin]
+    }
+
     /// The decisions of a symbol, in interleaved order, and 0 in the entries past N_CBPS: for each data number those of
     /// what was received on its carrier times the conjugate of the channel, against the square of the channel's size
     /// (own). Components of `symbol` are at most 2^22 in size. Takes no memory.

@@ -1,6 +1,6 @@
 pub mod BitCases
 pub mod Gray
-pub mod Counting
+pub mod Thresholds
 pub mod Nearness
 pub mod Backs
 pub mod AxisSizes

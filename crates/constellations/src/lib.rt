@@ -2,7 +2,7 @@
 //! memory.
 #![tactic(auto)]
 
-ghost use Rattle.std.specs.Prelude.{◌≡◌, ℕ, ◌+◌, ◌-◌, ◌*◌, ◌^◌, ◌<◌, ◌≤◌, length, ℤ, pos, ◌≤ℤ◌, slice_index, unsigned_abs, if◌then◌else◌};
+ghost use Rattle.std.specs.Prelude.{◌≡◌, ℕ, ◌+◌, ◌-◌, ◌*◌, ◌^◌, ◌<◌, ◌≤◌, length, ℤ, pos, ◌≤ℤ◌, int_le, slice_index, unsigned_abs, if◌then◌else◌};
 ghost use Rattle.fixed_complex.specs.declared.Cx.{Cx};
 ghost use Rattle.bit_lists.specs.Bits.{AreBits};
 ghost use Rattle.fixed_complex.specs.Pairs.{IsWithin};
@@ -82,6 +82,7 @@ pub fn decide_wide(modulation: Modulation, re: i128, im: i128, m: i128) -> [u8; 
     requires m_least { pos 0 ≤ℤ m }
     requires m_most { m ≤ℤ pos (2 ^ 112) }
     ensures decided { result ≡ decided modulation (record { re = re; im = im }) m }
+    ensures others { (j : ℕ) → bits_of_modulation modulation ≤ j → slice_index result j ≡ 0 }
     ensures bits { AreBits result }
 {
     let i = place_reached_wide(modulation, re, m);
@@ -196,40 +197,35 @@ fn lies_above(part: i64, m: i64, threshold: i64) -> bool
 }
 
 // How many thresholds an axis that needs 128 bits lies above: the place of its level.
+#[inline(always)]
 fn place_reached_wide(modulation: Modulation, part: i128, m: i128) -> u8
     requires part { unsigned_abs part ≤ 2 ^ 112 }
     requires m { unsigned_abs m ≤ 2 ^ 112 }
     ensures place { result ≡ thresholds_below modulation part m }
     ensures within { result ≤ length (thresholds modulation) }
 {
-    let mut above = 0;
-    for threshold in thresholds(modulation) {
-        if lies_above_wide(part, m, *threshold) {
-            above += 1;
+    match modulation {
+        Modulation::Bpsk | Modulation::Qpsk => reaches(part, 0),
+        Modulation::Qam16 => {
+            let (axis, first) = (1296 * part, 410 * m);
+            reaches(axis, -first) + reaches(axis, 0) + reaches(axis, first)
+        }
+        Modulation::Qam64 => {
+            let (axis, first) = (1296 * part, 200 * m);
+            let (second, third) = (2 * first, 3 * first);
+            let low = reaches(axis, -third) + reaches(axis, -second) + reaches(axis, -first);
+            let high = reaches(axis, first) + reaches(axis, second) + reaches(axis, third);
+            low + reaches(axis, 0) + high
         }
     }
-    above
 }
 
-// Whether an axis that needs 128 bits lies above a threshold, where the square of the channel's size is m.
-fn lies_above_wide(part: i128, m: i128, threshold: i64) -> bool
-    requires part { unsigned_abs part ≤ 2 ^ 112 }
-    requires m { unsigned_abs m ≤ 2 ^ 112 }
-    requires threshold { unsigned_abs threshold ≤ 2 ^ 10 }
-    ensures { result ≡ lies_above part m threshold }
+// 1 where an axis is at least a number, and 0 where it is less.
+fn reaches(axis: i128, least: i128) -> u8
+    ensures value { result ≡ (if int_le least axis then 1 else 0) }
+    ensures most { result ≤ 1 }
 {
-    1296 * part >= i128::from(threshold) * m
-}
-
-// The thresholds of an axis, halfway between neighbouring levels.
-fn thresholds(modulation: Modulation) -> &'static [i64]
-    ensures { result.now ≡ thresholds modulation }
-{
-    match modulation {
-        Modulation::Bpsk | Modulation::Qpsk => &[0],
-        Modulation::Qam16 => &[-410, 0, 410],
-        Modulation::Qam64 => &[-600, -400, -200, 0, 200, 400, 600],
-    }
+    if axis >= least { 1 } else { 0 }
 }
 
 #[cfg(test)]

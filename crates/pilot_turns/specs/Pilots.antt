@@ -1,5 +1,5 @@
 -- The turn of a symbol by its pilots (own; the pilots are those of IEEE Std 802.11-2012, 18.3.5.9 and 18.3.5.10).
-use Rattle.std.specs.Prelude.{ℕ, ◌+◌, ◌*◌, ◌==◌, List, ℤ, pos, ◌+ℤ◌, ◌-ℤ◌, ◌*ℤ◌, if◌then◌else◌}
+use Rattle.std.specs.Prelude.{ℕ, ◌*◌, ◌==◌, List, ℤ, pos, ◌+ℤ◌, ◌-ℤ◌, ◌*ℤ◌, if◌then◌else◌}
 use Rattle.std.specs.List.{range_with_len, sum_by}
 use Rattle.integer_laws.specs.Floor.{floor_div}
 use Rattle.fixed_complex.specs.declared.Cx.{Cx}

@@ -1,17 +1,17 @@
 //! Decisions of a symbol that is turned back.
-ghost use Rattle.std.specs.Prelude.{◌≡◌, ℕ, slice_index, take, ◌^◌, ◌<◌, ◌≤◌, ◌≤ℤ◌, ◌*ℤ◌, pos, unsigned_abs};
+ghost use Rattle.std.specs.Prelude.{◌≡◌, ℕ, ◌*◌, slice_index, take, ◌^◌, ◌<◌, ◌≤◌, ◌≤ℤ◌, ◌*ℤ◌, pos, unsigned_abs};
 ghost use Rattle.bit_lists.specs.Bits.{AreBits};
 ghost use Rattle.carrier_equaliser.specs.Decided.{decided_at, decided_over};
 ghost use Rattle.fixed_complex.specs.PairLists.{PairsWithin};
 ghost use Rattle.fixed_complex.specs.Pairs.{IsWithin, conjugate, multiple, times};
 ghost use Rattle.integer_laws.specs.Size.{sum_of_squares};
 ghost use Rattle.pilot_turns.specs.Turned.{interleaved_turned, phase_bound_of, turned_carriers, turned_channels};
-ghost use Rattle.rate_table.specs.Table.{row_of};
+ghost use Rattle.rate_table.specs.declared.Rate.{Rate};
+ghost use Rattle.rate_table.specs.Table.{bits_of_modulation, row_of};
 
-use carrier_bins::{bin, data_carrier};
+use carrier_bins::data_bin;
 use carrier_equaliser::{Estimate, put_bits};
 use constellations::decide_wide;
-use constellations::laws::carriers_of_data;
 use fixed_complex::{Cx, mul};
 use rate_table::{Modulation, Rate};
 
@@ -45,18 +45,44 @@ pub fn turned_decisions(
     ensures others { (k : ℕ) → (row_of rate).coded_bits ≤ k → slice_index out.new k ≡ 0 }
     ensures bits { AreBits out.new }
 {
-    let width = rate.bits_per_carrier();
+    // a loop for each modulation
+    match rate.modulation() {
+        Modulation::Bpsk => decide_numbers(Modulation::Bpsk, estimate, symbol, turn, out),
+        Modulation::Qpsk => decide_numbers(Modulation::Qpsk, estimate, symbol, turn, out),
+        Modulation::Qam16 => decide_numbers(Modulation::Qam16, estimate, symbol, turn, out),
+        Modulation::Qam64 => decide_numbers(Modulation::Qam64, estimate, symbol, turn, out),
+    }
+}
+
+// The decisions of all data numbers in turn, and zeros behind them.
+#[inline(always)]
+fn decide_numbers(
+    modulation: Modulation,
+    estimate: &Estimate,
+    symbol: &[Cx; 64],
+    turn: Cx,
+    out: &mut [u8; 288],
+)
+    requires symbol { PairsWithin (2 ^ 22) symbol.now }
+    requires turn { IsWithin (2 ^ 15) turn }
+    ensures list { (rate : Rate) → (row_of rate).modulation ≡ modulation
+        → take (row_of rate).coded_bits out.new
+        ≡ interleaved_turned rate turn estimate.now symbol.now }
+    ensures others { (k : ℕ) → 48 * bits_of_modulation modulation ≤ k → slice_index out.new k ≡ 0 }
+    ensures bits { AreBits out.new }
+{
+    let width = modulation.bits_per_carrier();
     *out = [0; 288];
     for number in 0..48 {
-        let bits = decided_number(estimate, rate, symbol, turn, number);
-        put_bits(out, number * width, &bits[..width]);
+        let bits = decided_number(modulation, estimate, symbol, turn, number);
+        put_bits(out, number * width, &bits);
     }
 }
 
 // The bits decided of a data number, with zeros behind them.
 fn decided_number(
+    modulation: Modulation,
     estimate: &Estimate,
-    rate: Rate,
     symbol: &[Cx; 64],
     turn: Cx,
     number: usize,
@@ -64,25 +90,28 @@ fn decided_number(
     requires symbol { PairsWithin (2 ^ 22) symbol.now }
     requires turn { IsWithin (2 ^ 15) turn }
     requires number { number < 48 }
-    ensures value { result
+    ensures value { (rate : Rate) → (row_of rate).modulation ≡ modulation
+        → result
         ≡ decided_at rate (turned_channels turn estimate.now) (turned_carriers symbol.now) number }
+    ensures others { (j : ℕ) → bits_of_modulation modulation ≤ j → slice_index result j ≡ 0 }
     ensures bits { AreBits result }
 {
-    carriers_of_data();
-    let carrier = data_carrier(number);
-    decided(rate, mul(estimate.at(carrier), turn), symbol[bin(carrier)])
+    let bin = data_bin(number);
+    decided(modulation, mul(estimate.in_bin(bin), turn), symbol[bin])
 }
 
 // The bits decided of a received carrier over a channel with its turn, with zeros behind them.
-fn decided(rate: Rate, channel: Cx, carrier: Cx) -> [u8; 6]
+fn decided(modulation: Modulation, channel: Cx, carrier: Cx) -> [u8; 6]
     requires channel { IsWithin (2 ^ 39) channel }
     requires carrier { IsWithin (2 ^ 22) carrier }
-    ensures value { result ≡ decided_over rate channel (multiple (pos 16384) carrier) }
+    ensures value { (rate : Rate) → (row_of rate).modulation ≡ modulation
+        → result ≡ decided_over rate channel (multiple (pos 16384) carrier) }
+    ensures others { (j : ℕ) → bits_of_modulation modulation ≤ j → slice_index result j ≡ 0 }
     ensures bits { AreBits result }
 {
     let back = turned_back(carrier, channel);
     decide_wide(
-        rate.modulation(),
+        modulation,
         16384 * i128::from(back.re),
         16384 * i128::from(back.im),
         size_squared(channel),

@@ -1,23 +1,28 @@
-use Rattle.std.proofs.Common.{◌≡◌, refl, arith}
-use Rattle.rate_table.specs.Table.{row_of}
-use Rattle.carrier_equaliser.specs.Decided.{decision_at, interleaved_decisions}
-use Rattle.carrier_equaliser.proofs.Places.{coded-le, take-filled, width-coded, zeros-at, zeros-bits}
-use Rattle.pilot_turns.specs.Turned.{interleaved_turned, turned_carriers, turned_channels}
+use Rattle.std.proofs.Common.{sym, ◌∙◌}
+use Rattle.rate_table.specs.declared.Modulation.TheVariants.{Bpsk, Qpsk, Qam16, Qam64}
+use Rattle.carrier_equaliser.proofs.Numbers.{zeros_behind}
 use Rattle.pilot_turns.proofs.decisions.turned_decisions.Goals as goal
 
-pub loop-number-init : goal.loop-number-init
-loop-number-init c = record {
-  long = refl;
-  decided = λ k below. absurd (omega arith);
-  rest = λ k _. zeros-at 288 k;
-  bits = zeros-bits 288;
-}
+pub returns-in-Bpsk-clause-list : goal.returns-in-Bpsk-clause-list
+returns-in-Bpsk-clause-list c = c.decide_numbers.ensures.list c.args.rate (sym c.modulation.ensures ∙ c.in-Bpsk.is)
 
-pub returns-clause-list : goal.returns-clause-list
-unfolding interleaved_decisions interleaved_turned
-returns-clause-list c =
-    let all : c.loop-number.number ≡ 48 = omega arith in
-    let decided = rw all at c.loop-number.invariant.decided in
-    take-filled (decision_at c.args.rate (turned_channels c.args.turn c.args.estimate.now) (turned_carriers c.args.symbol.now)) (row_of c.args.rate).coded_bits c.loop-number.out
-    (omega (arith, coded-le c.args.rate, c.loop-number.invariant.long))
-    (λ k lt. decided k (omega (arith, width-coded c.args.rate, lt)))
+pub returns-in-Bpsk-clause-others : goal.returns-in-Bpsk-clause-others
+returns-in-Bpsk-clause-others c = zeros_behind c.args.rate Bpsk _ (sym c.modulation.ensures ∙ c.in-Bpsk.is) c.decide_numbers.ensures.others
+
+pub returns-in-Qpsk-clause-list : goal.returns-in-Qpsk-clause-list
+returns-in-Qpsk-clause-list c = c.decide_numbers-in-Qpsk.ensures.list c.args.rate (sym c.modulation.ensures ∙ c.in-Qpsk.is)
+
+pub returns-in-Qpsk-clause-others : goal.returns-in-Qpsk-clause-others
+returns-in-Qpsk-clause-others c = zeros_behind c.args.rate Qpsk _ (sym c.modulation.ensures ∙ c.in-Qpsk.is) c.decide_numbers-in-Qpsk.ensures.others
+
+pub returns-in-Qam16-clause-list : goal.returns-in-Qam16-clause-list
+returns-in-Qam16-clause-list c = c.decide_numbers-in-Qam16.ensures.list c.args.rate (sym c.modulation.ensures ∙ c.in-Qam16.is)
+
+pub returns-in-Qam16-clause-others : goal.returns-in-Qam16-clause-others
+returns-in-Qam16-clause-others c = zeros_behind c.args.rate Qam16 _ (sym c.modulation.ensures ∙ c.in-Qam16.is) c.decide_numbers-in-Qam16.ensures.others
+
+pub returns-in-Qam64-clause-list : goal.returns-in-Qam64-clause-list
+returns-in-Qam64-clause-list c = c.decide_numbers-in-Qam64.ensures.list c.args.rate (sym c.modulation.ensures ∙ c.in-Qam64.is)
+
+pub returns-in-Qam64-clause-others : goal.returns-in-Qam64-clause-others
+returns-in-Qam64-clause-others c = zeros_behind c.args.rate Qam64 _ (sym c.modulation.ensures ∙ c.in-Qam64.is) c.decide_numbers-in-Qam64.ensures.others
