@@ -7,6 +7,7 @@ ghost use Rattle.bit_lists.specs.Text.{IsBadPlace, IsCharacter, IsTextOf, text_o
 ghost use Rattle.bit_lists.specs.declared.TextFault.TheVariants.{NoMemory};
 ghost use Rattle.byte_lanes.specs.Differences.{differences_of};
 
+use blocks::read_blocks;
 use byte_lanes::differences;
 use character_texts::without_newline;
 use std::alloc::{AllocError, Global};
@@ -14,6 +15,7 @@ use std::marker::Model;
 use std::simd::prelude::*;
 use thiserror::Error;
 
+mod blocks;
 pub mod laws;
 
 // The most octets that the kernel counts at once.
@@ -160,9 +162,9 @@ pub fn read_text(alloc: Global, text: &[u8]) -> Result<Vec<u8>, TextFault>
     ensures bad { (at : ℕ) → IsErrOf result (TextFault.BadBit at) → IsBadPlace text.now at }
 {
     let characters = without_newline(text);
-    let mut bits = Vec::with_capacity(alloc, characters.len())?;
-    for (at, character) in characters.iter().enumerate() {
-        match bit_of(*character) {
+    let mut bits = read_blocks(alloc, characters)?;
+    for at in bits.len()..characters.len() {
+        match bit_of(characters[at]) {
             Some(bit) => push_bit(&mut bits, bit)?,
             None => return Err(TextFault::BadBit { at }),
         }

@@ -1,8 +1,9 @@
 -- Counting the bytes that differ by a mask of lanes.
-use Rattle.std.proofs.Common.{◌≡◌, ℕ, ◌+◌, ◌%◌, ◌^◌, ◌<◌, ◌≤◌, List, [], ◌∷◌, map, ◌++◌, ◌-◌, length, take, drop, length-take, cond, Bool, true, false, not, eqb, get_or, w8, refl, ap, ◌∙◌, arith}
+use Rattle.std.proofs.Common.{◌≡◌, ℕ, ◌+◌, ◌%◌, ◌^◌, ◌<◌, ◌≤◌, List, [], ◌∷◌, map, ◌++◌, ◌-◌, length, take, drop, length-take, cond, Bool, true, false, not, eqb, get_or, w8, refl, ap, ◌∙◌, inl, inr, arith}
 use Rattle.std.specs.Prelude.{count_ones, if◌then◌else◌, ◌==◌}
 use Rattle.std.specs.Simd.Lanes.{zip2, mask_l, top}
 use Rattle.std.proofs.lemmas.Simd.{ones-mask_l_cons, mask_l-mod, length-zip2}
+use Rattle.std.proofs.lemmas.Bool.{cases_eq, ne_eqb}
 use Rattle.std.proofs.lemmas.List.{length-map}
 use Rattle.std.proofs.Math.Seq.{drop-cons, take-add}
 use Rattle.std.specs.List.{slice_range}
@@ -11,11 +12,11 @@ use borrow.Table.Row.{s_int}
 use mir.Syntax.{mask, ne}
 use Rattle.byte_lanes.specs.Differences.{differences_of}
 
-abbrev differ : ℕ → ℕ → ℕ
+abbrev pub differ : ℕ → ℕ → ℕ
 differ = act2 (mask ne) (s_int w8) (s_int w8) (s_int w8)
 
 -- the mask of the lanes that differ
-abbrev differ_mask : List ℕ → List ℕ → ℕ
+abbrev pub differ_mask : List ℕ → List ℕ → ℕ
 differ_mask xs ys = mask_l (map (top 7) (zip2 differ xs ys))
 
 set_where_differ : (same : Bool) → ◌≡◌ {A = ℕ} (cond (top 7 (cond (not same) 255 0)) 1 0) (cond same 0 1)
@@ -73,3 +74,24 @@ differences-one xs ys n below h =
     let one : (n + 1) - n ≡ 1 = omega arith in
     let more = differences-more xs ys n 1 (n + 1) refl h in
     omega (arith, rw (one, x, y) at more)
+
+-- where no place differs, two lists are one
+same_lists : (xs ys : List ℕ) → length xs ≡ length ys → differences_of xs ys ≡ 0 → xs ≡ ys
+unfolding differences_of
+same_lists [] [] h none = refl
+same_lists [] (y ∷ ys) h none = absurd (omega arith)
+same_lists (x ∷ xs) [] h none = absurd (omega arith)
+same_lists (x ∷ xs) (y ∷ ys) h none =
+    elim (cases_eq x y) [
+      | inl same ↦ rw (same, same_lists xs ys (omega arith) (omega arith))
+      | inr other ↦ let test : eqb x y ≡ false = ne_eqb x y other in absurd (omega (arith, rw test at none))
+    ]
+
+ones_of_none : count_ones 0 ≡ 0
+unfolding lib.Count.ones
+ones_of_none = refl
+
+-- and so where the mask of the lanes that differ is 0
+pub same_by_mask : (xs ys : List ℕ) → length xs ≡ length ys → length xs ≤ 64 → differ_mask xs ys % 2 ^ 64 ≡ 0 → xs ≡ ys
+same_by_mask xs ys h short none =
+    same_lists xs ys h (omega (arith, mask_counts xs ys h short, ap count_ones none, ones_of_none))

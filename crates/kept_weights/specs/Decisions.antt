@@ -6,7 +6,7 @@ use Rattle.std.specs.Prelude.{ℕ, ◌+◌, ◌-◌, ◌*◌, ◌==◌, List, ma
 use Rattle.std.specs.List.{range_with_len, sum_by}
 use Rattle.rate_table.specs.declared.CodeRate.{CodeRate}
 use Rattle.rate_table.specs.declared.CodeRate.TheVariants.{Half, TwoThirds, ThreeQuarters}
-use Rattle.puncture_map.specs.Kept.{is_kept, rank}
+use Rattle.puncture_map.specs.Carried.{carried_at}
 use Rattle.survivor_memory.specs.declared.PairCosts.{PairCosts}
 
 -- what a decision costs for a bit
@@ -16,9 +16,7 @@ decision_cost full decision bit = if bit == 0 then decision else full - decision
 -- what the mark at a place of the code costs for a bit: a kept place has the decision of its rank
 abbrev pub mark_cost : CodeRate → ℕ → List ℕ → ℕ → ℕ → ℕ
 mark_cost rate full decisions place bit =
-    if is_kept rate place
-    then decision_cost full (slice_index decisions (rank rate place)) bit
-    else 0
+    carried_at (λ decision. decision_cost full decision bit) 0 rate decisions place
 
 -- what the pair of marks of a step costs, for A and for B
 unfoldable pub costs_of_step : CodeRate → ℕ → List ℕ → ℕ → PairCosts

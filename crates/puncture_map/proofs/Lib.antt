@@ -1,4 +1,5 @@
 pub mod Ranks
 pub mod Counts
+pub mod Carried
 pub mod KeptBits
 pub mod Periods

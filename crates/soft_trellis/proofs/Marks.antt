@@ -4,11 +4,12 @@ use Rattle.std.specs.Prelude.{if◌then◌else◌}
 use Rattle.std.specs.List.{range_with_len}
 use Rattle.std.proofs.lemmas.List.{get_or-map, length-map, map-append}
 use Rattle.std.proofs.lemmas.List.Elements.{All-append, All-nil}
-use Rattle.std.proofs.lemmas.List.FromFn.{map-range_with_len_more}
+use Rattle.puncture_map.specs.Carried.{carried_pair}
 use Rattle.puncture_map.specs.Kept.{is_kept, rank}
+use Rattle.puncture_map.proofs.Carried.{carried_pairs-more}
 use Rattle.rate_table.specs.declared.CodeRate.{CodeRate}
 use Rattle.survivor_memory.specs.declared.PairCosts.{PairCosts}
-use Rattle.survivor_memory.specs.Costs.{CostAtMost, most_cost}
+use Rattle.survivor_memory.specs.Costs.{CostAtMost, both_costs, most_cost}
 use Rattle.survivor_memory.specs.Survivors.{Holds, MemoryView}
 use Rattle.kept_weights.specs.Decisions.{costs_of_step, costs_of_steps, decision_cost, mark_cost}
 use Rattle.soft_trellis.specs.declared.Soft.{Soft}
@@ -21,8 +22,18 @@ mark_cost_le : (mark : Soft) → IsMark mark → (cost_at mark 0 ≤ 15) × (cos
 mark_cost_le Absent is = (omega arith, omega arith)
 mark_cost_le (Cost number) is = (is, omega arith)
 
-pub pair_at_most_30 : (a b : Soft) → IsMark a → IsMark b → most_cost (costs_of (a, b)) ≤ 30
+pair_at_most_30 : (a b : Soft) → IsMark a → IsMark b → most_cost (costs_of (a, b)) ≤ 30
 pair_at_most_30 a b p q = omega (arith, mark_cost_le a p, mark_cost_le b q)
+
+-- a pair costs what its first and its second mark cost beside an absent one
+pub both_marks : (a b : Soft) → both_costs (costs_of (a, Absent)) (costs_of (Absent, b)) ≡ costs_of (a, b)
+both_marks a b =
+    let first : (bit : ℕ) → cost_at a bit + 0 ≡ cost_at a bit = λ bit. omega arith in
+    let second : (bit : ℕ) → 0 + cost_at b bit ≡ cost_at b bit = λ bit. omega arith in
+    rw (first 0, first 1, second 0, second 1)
+
+pub both_at_most_30 : (a b : Soft) → IsMark a → IsMark b → most_cost (both_costs (costs_of (a, Absent)) (costs_of (Absent, b))) ≤ 30
+both_at_most_30 a b p q = omega (arith, mark_cost_le a p, mark_cost_le b q)
 
 -- so pairs of marks cost at most 30 each
 pub marks_cost_at_most_30 : (marks : List (Soft × Soft)) → AreMarks marks → CostAtMost 30 (map costs_of marks)
@@ -57,7 +68,7 @@ mark_at_costs rate values place bit = mark_costs (is_kept rate place) (get_or va
 
 -- the costs of a step's marks are those of the values
 marks_at_costs : (rate : CodeRate) (values : List ℕ) (step : ℕ) → costs_of (marks_at rate values step) ≡ costs_of_step rate 15 values step
-unfolding marks_at costs_of_step
+unfolding carried_pair costs_of_step
 marks_at_costs rate values step =
     let at = mark_at_costs rate values in
     rw (at (2 * step) 0, at (2 * step) 1, at (2 * step + 1) 0, at (2 * step + 1) 1) refl
@@ -72,4 +83,4 @@ marks_of_costs rate values steps = from 0 steps
 
 -- the marks are made step by step
 pub marks_of_more : (rate : CodeRate) (values : List ℕ) (steps : ℕ) → marks_of rate values (steps + 1) ≡ marks_of rate values steps ++ marks_at rate values steps ∷ []
-marks_of_more rate values steps = map-range_with_len_more (marks_at rate values) 0 steps steps (omega arith)
+marks_of_more = carried_pairs-more (λ value. Cost value) Absent

@@ -29,6 +29,11 @@ costs_of (a, b) = record {
   second_one = cost_at b 1;
 }
 
+-- where a mark stands in the tables of what marks cost
+abbrev pub place_in_costs : Soft → ℕ
+place_in_costs Absent = 16
+place_in_costs (Cost number) = number
+
 -- the cost of a list of bits against as many pairs of marks: the sum over the places of its code
 abbrev pub soft_cost : List (Soft × Soft) → List ℕ → ℕ
 soft_cost marks u = cost (map costs_of marks) u

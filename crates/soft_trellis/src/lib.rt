@@ -6,15 +6,17 @@ ghost use Rattle.std.specs.Prelude.{◌≡◌, ℕ, ◌+◌, ◌<◌, ◌≤◌,
 ghost use Rattle.bit_lists.specs.Bits.{AreBits};
 ghost use Rattle.modem_ports.specs.Counts.{raised_by};
 ghost use Rattle.soft_trellis.specs.declared.Soft.{Soft};
-ghost use Rattle.soft_trellis.specs.Marks.{IsCheapest, IsMark, StandsFor, cost_at, costs_of};
-ghost use Rattle.survivor_memory.specs.Costs.{IsLight, most_cost};
+ghost use Rattle.soft_trellis.specs.Marks.{IsCheapest, IsMark, StandsFor};
 ghost use Rattle.survivor_memory.specs.Survivors.{AreEntries, DifferByAtMost};
 
+use branches::{first_costs, second_costs};
 use modem_ports::Steps;
 use std::alloc::{AllocError, Global};
 use std::marker::Model;
-use survivor_memory::{BranchCosts, PairCosts, SurvivorMemory};
+use survivor_memory::SurvivorMemory;
 
+mod blocks;
+mod branches;
 mod fields;
 pub mod laws;
 mod texts;
@@ -32,21 +34,6 @@ pub enum Soft {
     Absent,
     /// A number from 0 to 15: so much costs the bit 0, and what it lacks of 15 costs the bit 1.
     Cost(u8),
-}
-
-impl Soft {
-    // What the mark costs at the bits 0 and 1.
-    fn costs(self) -> (u8, u8)
-        requires { IsMark self }
-        ensures zero { result.0 ≡ cost_at self 0 }
-        ensures one { result.1 ≡ cost_at self 1 }
-        ensures at_most { (result.0 ≤ 15) × (result.1 ≤ 15) }
-    {
-        match self {
-            Soft::Absent => (0, 0),
-            Soft::Cost(number) => (number, 15 - number),
-        }
-    }
 }
 
 /// The trellis of the code over the pairs of soft marks that it holds (own). Its entries are bytes, worked on as one
@@ -88,6 +75,7 @@ impl SoftTrellis {
 
     /// Appends one pair of marks, for A and for B, of which a number is at most 15; there is room for it. The count of
     /// steps rises by one. Takes no memory.
+    #[inline(always)]
     pub fn step(&mut self, a: Soft, b: Soft, steps: &mut Steps)
         requires room { length self.old.rows < self.old.room }
         requires first { IsMark a }
@@ -104,7 +92,7 @@ impl SoftTrellis {
     {
         steps.tick();
         self.memory
-            .step(&BranchCosts::of(pair_costs(a, b)), MOST_COST);
+            .step_of_two(first_costs(a), second_costs(b), MOST_COST);
     }
 
     /// Writes the list that costs least against the pairs held, at least 6, one bit into each place of `out`, which has
@@ -136,24 +124,6 @@ impl SoftTrellis {
         ensures { result ≡ self.now.room }
     {
         self.memory.room()
-    }
-}
-
-// What a pair of marks costs.
-fn pair_costs(a: Soft, b: Soft) -> PairCosts
-    requires first { IsMark a }
-    requires second { IsMark b }
-    ensures costs { result ≡ costs_of (a, b) }
-    ensures light { IsLight result }
-    ensures most { most_cost result ≤ 30 }
-{
-    let (first_zero, first_one) = a.costs();
-    let (second_zero, second_one) = b.costs();
-    PairCosts {
-        first_zero,
-        first_one,
-        second_zero,
-        second_one,
     }
 }
 

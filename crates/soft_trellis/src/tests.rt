@@ -9,9 +9,13 @@ const LEANING: &[u8] =
 
 #[test]
 fn reads_texts(rt: HostRuntime) -> Result<(), Fail> {
-    let rows: [(&[u8], &[u8]); 4] = [
+    let rows: [(&[u8], &[u8]); 5] = [
         (b"09af", &[0, 9, 10, 15]),
         (b"f7\n", &[15, 7]),
+        (
+            b"0123456789abcdef9\n",
+            &[0, 1, 2, 3, 4, 5, 6, 7, 8, 9, 10, 11, 12, 13, 14, 15, 9],
+        ),
         (b"", &[]),
         (b"\n", &[]),
     ];
@@ -19,13 +23,15 @@ fn reads_texts(rt: HostRuntime) -> Result<(), Fail> {
         let read = read_costs(rt.alloc(), text)?;
         assert!(rt; read.as_slice() == values);
     }
-    let bad: [(&[u8], usize); 6] = [
+    let bad: [(&[u8], usize); 8] = [
         (b"0G", 1),
         (b"0F", 1),
         (b"\n0", 0),
         (b"0\n\n", 1),
         (b"0:", 1),
         (b"a`", 1),
+        (b"0123456789abcdeg0", 15),
+        (b"0123456789abcdef0A", 17),
     ];
     for (text, place) in bad {
         assert!(rt;

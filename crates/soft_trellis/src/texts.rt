@@ -5,6 +5,7 @@ ghost use Rattle.soft_trellis.specs.declared.texts.CostFault.TheVariants.{NoMemo
 ghost use Rattle.soft_trellis.specs.Text.{IsBadPlace, IsTextOf, digit_of};
 ghost use Rattle.soft_trellis.specs.Values.{AreValues, IsValue};
 
+use crate::blocks::read_blocks;
 use character_texts::without_newline;
 use std::alloc::{AllocError, Global};
 use thiserror::Error;
@@ -37,9 +38,9 @@ pub fn read_costs(alloc: Global, text: &[u8]) -> Result<Vec<u8>, CostFault>
     ensures bad { (at : ℕ) → IsErrOf result (CostFault.BadCost at) → IsBadPlace text.now at }
 {
     let digits = without_newline(text);
-    let mut values = Vec::with_capacity(alloc, digits.len())?;
-    for (at, digit) in digits.iter().enumerate() {
-        match value_of(*digit) {
+    let mut values = read_blocks(alloc, digits)?;
+    for at in values.len()..digits.len() {
+        match value_of(digits[at]) {
             Some(value) => push_value(&mut values, value)?,
             None => return Err(CostFault::BadCost { at }),
         }

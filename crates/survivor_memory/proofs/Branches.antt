@@ -1,11 +1,11 @@
 -- The tables of the branches.
-use Rattle.std.proofs.Common.{◌≡◌, ℕ, zero, suc, ◌+◌, ◌-◌, ◌/◌, ◌%◌, ◌<◌, true, eqb, get_or, refl, ◌∙◌, ◌==◌, if◌then◌else◌, arith}
+use Rattle.std.proofs.Common.{◌≡◌, ℕ, zero, suc, ◌+◌, ◌-◌, ◌*◌, ◌/◌, ◌%◌, ◌<◌, ◌≤◌, Bool, true, false, eqb, min, get_or, refl, ◌∙◌, ◌==◌, if◌then◌else◌, arith}
 use Rattle.std.proofs.lemmas.Bool.{agree_below_at, eqb-true}
 use Rattle.conv_code.specs.Code.{earlier, parity_a, parity_b}
 use Rattle.conv_code.specs.States.{branch_a, branch_b}
 use Rattle.survivor_memory.specs.declared.lanes.TheConstants.{A_FROM_LOWER, B_FROM_LOWER}
 use Rattle.survivor_memory.specs.declared.PairCosts.{PairCosts}
-use Rattle.survivor_memory.specs.Costs.{price, IsLight}
+use Rattle.survivor_memory.specs.Costs.{both_costs, most_cost, price, IsLight}
 use Rattle.survivor_memory.proofs.Sums.{price_le}
 
 -- A and B from the lower predecessor
@@ -53,3 +53,19 @@ IsBit-a_from_lower s h = omega (arith, a_from_lower s h)
 pub IsBit-b_from_lower : (s : ℕ) → s < 64 → get_or B_FROM_LOWER s 0 < 2
 unfolding parity_b
 IsBit-b_from_lower s h = omega (arith, b_from_lower s h)
+
+-- a sum of either of two numbers
+either_sum : (first : Bool) (p q x y : ℕ) → (if first then p + x else q + y) ≡ (if first then p else q) + (if first then x else y)
+either_sum true p q x y = refl
+either_sum false p q x y = refl
+
+-- two pairs cost together what each costs
+price-both : (pair other : PairCosts) (a b : ℕ) → price (both_costs pair other) a b ≡ price pair a b + price other a b
+unfolding price
+price-both pair other a b =
+    omega (arith, either_sum (a == 0) pair.first_zero pair.first_one other.first_zero other.first_one, either_sum (b == 0) pair.second_zero pair.second_one other.second_zero other.second_one)
+
+-- a sum that is held at 255 of what two pairs cost at the bits a and b
+pub sum_of_two : (pair other : PairCosts) (a b x y sum most : ℕ) → 7 * most < 255 → most_cost (both_costs pair other) ≤ most → x ≡ price pair a b → y ≡ price other a b → sum ≡ min 255 (x + y) → sum ≡ price (both_costs pair other) a b
+sum_of_two pair other a b x y sum most few light first second is =
+    omega (arith, price_le (both_costs pair other) a b, price-both pair other a b)

@@ -12,3 +12,4 @@ mod Spread
 mod Stepping
 mod Starting
 pub mod Sums
+pub mod Tables

@@ -25,6 +25,15 @@ cost pairs u =
 abbrev pub most_cost : PairCosts → ℕ
 most_cost pair = max pair.first_zero pair.first_one + max pair.second_zero pair.second_one
 
+-- what two pairs cost together
+abbrev pub both_costs : PairCosts → PairCosts → PairCosts
+both_costs pair other = record {
+  first_zero = pair.first_zero + other.first_zero;
+  first_one = pair.first_one + other.first_one;
+  second_zero = pair.second_zero + other.second_zero;
+  second_one = pair.second_one + other.second_one;
+}
+
 -- seven such pairs cost less than 255
 abbrev pub IsLight : PairCosts → Type 0
 IsLight pair = 7 * most_cost pair < 255

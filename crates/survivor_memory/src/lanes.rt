@@ -104,6 +104,7 @@ pub fn lesser(first: u8x64, second: u8x64) -> u8x64
 
 /// Takes the least of the entries off all of them but 255, where the first is above a limit. Answers how much that is, so
 /// 0 where the first is at most the limit.
+#[inline(always)]
 pub fn lower_above(entries: &mut [u8; 64], limit: u8) -> u8
     ensures within { (s : ℕ) → s < 64 → result ≤ slice_index entries.old s }
     ensures lowered { (s : ℕ) → s < 64 → slice_index entries.old s < 255
@@ -124,6 +125,7 @@ pub fn lower_above(entries: &mut [u8; 64], limit: u8) -> u8
 }
 
 // The least of the entries.
+#[inline(never)]
 fn least_of(entries: &[u8; 64]) -> u8
     ensures least { (s : ℕ) → s < 64 → result ≤ slice_index entries.now s }
     ensures found { (s : ℕ) × (s < 64) × (slice_index entries.now s ≡ result) }

@@ -5,7 +5,7 @@
 ghost use Rattle.std.specs.Prelude.{◌≡◌, ℕ, ◌+◌, ◌*◌, ◌<◌, ◌≤◌, ◌^◌, List, [], ◌∷◌, ◌++◌, length, replicate, IfOk};
 ghost use Rattle.bit_lists.specs.Bits.{AreBits};
 ghost use Rattle.survivor_memory.specs.declared.PairCosts.{PairCosts};
-ghost use Rattle.survivor_memory.specs.Costs.{AreBranchCosts, CostAtMost, IsLight, most_cost};
+ghost use Rattle.survivor_memory.specs.Costs.{AreBranchCosts, CostAtMost, IsLight, both_costs, most_cost};
 ghost use Rattle.survivor_memory.specs.Nearest.{IsNearest};
 ghost use Rattle.survivor_memory.specs.Survivors.{AreEntries, DifferByAtMost, Holds, followed};
 
@@ -106,6 +106,7 @@ impl SurvivorMemory {
 
     /// Appends one pair, by what its branches cost. No pair held costs more than `most`, of which seven are less than 255.
     /// There is room for it. Takes no memory.
+    #[inline(always)]
     pub fn step(&mut self, branches: &BranchCosts, most: u8)
         requires room { length self.old.rows < self.old.room }
         requires light { 7 * most < 255 }
@@ -119,9 +120,57 @@ impl SurvivorMemory {
             → 6 ≤ length pairs → DifferByAtMost (6 * bound) self.new.entries }
         ensures room { self.new.room ≡ self.old.room }
     {
+        self.step_by(
+            u8x64::from_array(branches.lower),
+            u8x64::from_array(branches.higher),
+            most,
+        );
+    }
+
+    /// Appends one pair, by what the branches of its first and of its second mark cost: those of a pair cost the sum. Else
+    /// as `step`. Takes no memory.
+    #[inline(always)]
+    pub fn step_of_two(&mut self, first: &BranchCosts, second: &BranchCosts, most: u8)
+        requires room { length self.old.rows < self.old.room }
+        requires light { 7 * most < 255 }
+        ensures appended { (pairs : List PairCosts) (costs others : PairCosts)
+            → AreBranchCosts costs first.now → AreBranchCosts others second.now
+            → most_cost (both_costs costs others) ≤ most → Holds most self.old pairs
+            → Holds most self.new (pairs ++ both_costs costs others ∷ []) }
+        ensures held { length self.new.rows ≡ length self.old.rows + 1 }
+        ensures entries { AreEntries self.new.entries }
+        ensures differ { (pairs : List PairCosts) (bound : ℕ) → Holds most self.new pairs
+            → CostAtMost bound pairs
+            → 6 ≤ length pairs → DifferByAtMost (6 * bound) self.new.entries }
+        ensures room { self.new.room ≡ self.old.room }
+    {
+        let lower = lanes::sums(
+            u8x64::from_array(first.lower),
+            u8x64::from_array(second.lower),
+        );
+        let higher = lanes::sums(
+            u8x64::from_array(first.higher),
+            u8x64::from_array(second.higher),
+        );
+        self.step_by(lower, higher, most);
+    }
+
+    // Appends one pair, by the costs of its branches as lanes.
+    #[inline(always)]
+    fn step_by(&mut self, from_lower: u8x64, from_higher: u8x64, most: u8)
+        requires room { length self.old.rows < self.old.room }
+        requires light { 7 * most < 255 }
+        ensures appended { (pairs : List PairCosts) (costs : PairCosts)
+            → AreBranchCosts costs (record { lower = from_lower; higher = from_higher })
+            → most_cost costs ≤ most → Holds most self.old pairs
+            → Holds most self.new (pairs ++ costs ∷ []) }
+        ensures held { length self.new.rows ≡ length self.old.rows + 1 }
+        ensures entries { AreEntries self.new.entries }
+        ensures room { self.new.room ≡ self.old.room }
+    {
         let (lower, higher) = lanes::predecessors(u8x64::from_array(self.entries));
-        let lower = lanes::sums(lower, u8x64::from_array(branches.lower));
-        let higher = lanes::sums(higher, u8x64::from_array(branches.higher));
+        let lower = lanes::sums(lower, from_lower);
+        let higher = lanes::sums(higher, from_higher);
         let best = lanes::lesser(lower, higher);
         self.entries = best.to_array();
         self.rows[self.held] = lanes::differing(lower, best);

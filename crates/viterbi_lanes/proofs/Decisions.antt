@@ -1,20 +1,20 @@
 -- The marks of decisions, and what they cost.
-use Rattle.std.proofs.Common.{◌≡◌, ℕ, zero, suc, ◌+◌, ◌*◌, ◌<◌, ◌≤◌, List, [], ◌∷◌, ◌++◌, Bool, true, false, length, map, get_or, take, refl, sym, ◌∙◌, arith}
+use Rattle.std.proofs.Common.{◌≡◌, ℕ, zero, suc, ◌+◌, ◌*◌, List, [], ◌∷◌, ◌++◌, Bool, true, false, length, map, get_or, take, refl, sym, ◌∙◌, arith}
 use Rattle.std.specs.Prelude.{◌==◌, if◌then◌else◌}
 use Rattle.std.specs.List.{range_with_len}
-use Rattle.std.proofs.lemmas.List.{get_or-take}
-use Rattle.std.proofs.lemmas.List.FromFn.{length-map-range_with_len, map-range_with_len_more}
+use Rattle.std.proofs.lemmas.List.FromFn.{length-map-range_with_len}
 use Rattle.bit_lists.specs.Bits.{IsBit, AreBits}
 use Rattle.bit_lists.proofs.BitFacts.{IsBit-slice_index, on_two_bits}
 use Rattle.rate_table.specs.declared.CodeRate.{CodeRate}
+use Rattle.puncture_map.specs.Carried.{carried_pair}
 use Rattle.puncture_map.specs.Kept.{is_kept, kept_count, rank}
-use Rattle.puncture_map.proofs.Ranks.{rank-below}
+use Rattle.puncture_map.proofs.Carried.{carried_pairs-more, carried_pairs-take}
 use Rattle.survivor_memory.specs.Nearest.{IsNearest}
 use Rattle.kept_weights.proofs.Costs.{cost-hard}
 use Rattle.kept_weights.proofs.Nearest.{flips_counted, flips_repaired}
 use Rattle.kept_weights.specs.Decisions.{decision_cost, mark_cost, costs_of_step, costs_of_steps}
 use Rattle.viterbi_lanes.specs.declared.Mark.TheVariants.{Zero, One, Absent}
-use Rattle.viterbi_lanes.specs.Decisions.{AreNearlyKeptCode, changes, mark_at, marks_at, marks_of}
+use Rattle.viterbi_lanes.specs.Decisions.{AreNearlyKeptCode, changes, mark_at, mark_of, marks_at, marks_of}
 use Rattle.viterbi_lanes.specs.Marks.{cost_at, costs_of, distance}
 use Rattle.viterbi_lanes.proofs.Distances.{distance_is_cost}
 
@@ -31,7 +31,7 @@ mark_at_costs rate decisions place bit bits q =
 
 -- the costs of a step's marks are those of the decisions
 marks_at_costs : (rate : CodeRate) (decisions : List ℕ) (step : ℕ) → AreBits decisions → costs_of (marks_at rate decisions step) ≡ costs_of_step rate 1 decisions step
-unfolding marks_at costs_of_step
+unfolding carried_pair costs_of_step
 marks_at_costs rate decisions step bits =
     let at : (place bit : ℕ) → IsBit bit → cost_at (mark_at rate decisions place) bit ≡ mark_cost rate 1 decisions place bit = λ place bit q. mark_at_costs rate decisions place bit bits q in
     rw (at (2 * step) 0 (omega arith), at (2 * step) 1 (omega arith), at (2 * step + 1) 0 (omega arith), at (2 * step + 1) 1 (omega arith))
@@ -46,7 +46,7 @@ marks_of_costs rate decisions bits steps = from 0 steps
 
 -- the marks are made step by step
 pub marks_of_more : (rate : CodeRate) (decisions : List ℕ) (steps : ℕ) → marks_of rate decisions (steps + 1) ≡ marks_of rate decisions steps ++ marks_at rate decisions steps ∷ []
-marks_of_more rate decisions steps = map-range_with_len_more (marks_at rate decisions) 0 steps steps (omega arith)
+marks_of_more = carried_pairs-more mark_of Absent
 
 -- a list's distance to the marks of decisions is the number of those that differ from its kept code
 pub distance_of_decisions : (rate : CodeRate) (steps : ℕ) (u decisions : List ℕ) → AreBits decisions → length u ≡ steps → distance (marks_of rate decisions steps) u ≡ changes rate steps u decisions
@@ -60,25 +60,6 @@ found_again rate steps least v u decisions nearly nearest =
     let by_cost = rw (marks_of_costs rate decisions nearly.bits steps) at nearest in
     (flips_repaired rate steps least decisions v u nearly.bits nearly.closed nearly.few by_cost, flips_counted rate steps least decisions v u nearly.bits nearly.closed nearly.few by_cost)
 
--- a mark depends on its decision only where its place is kept
-same_mark : (kept : Bool) (d e : ℕ) → (kept ≡ true → d ≡ e) → (if kept then (if d == 0 then Zero else One) else Absent) ≡ (if kept then (if e == 0 then Zero else One) else Absent)
-same_mark true d e same = rw (same refl)
-same_mark false d e same = refl
-
-mark_at-take : (rate : CodeRate) (decisions : List ℕ) (steps place : ℕ) → place < 2 * steps → mark_at rate (take (kept_count rate steps) decisions) place ≡ mark_at rate decisions place
-mark_at-take rate decisions steps place within =
-    same_mark (is_kept rate place) (get_or (take (kept_count rate steps) decisions) (rank rate place) 0) (get_or decisions (rank rate place) 0)
-    (λ kept. get_or-take (kept_count rate steps) decisions (rank rate place) 0 (rank-below rate place steps within kept))
-
-marks_at-take : (rate : CodeRate) (decisions : List ℕ) (steps step : ℕ) → step < steps → marks_at rate (take (kept_count rate steps) decisions) step ≡ marks_at rate decisions step
-unfolding marks_at
-marks_at-take rate decisions steps step within =
-    rw (mark_at-take rate decisions steps (2 * step) (omega arith), mark_at-take rate decisions steps (2 * step + 1) (omega arith))
-
 -- decisions behind those that the steps carry play no part
 pub marks_of-take : (rate : CodeRate) (decisions : List ℕ) (steps : ℕ) → marks_of rate (take (kept_count rate steps) decisions) steps ≡ marks_of rate decisions steps
-marks_of-take rate decisions steps = from 0 steps (omega arith)
-  where
-    from : (start count : ℕ) → start + count ≤ steps → map (marks_at rate (take (kept_count rate steps) decisions)) (range_with_len start count) ≡ map (marks_at rate decisions) (range_with_len start count)
-    from start zero h = refl
-    from start (suc count) h = rw (marks_at-take rate decisions steps start (omega arith), from (start + 1) count (omega arith))
+marks_of-take = carried_pairs-take mark_of Absent

@@ -9,6 +9,7 @@ use Rattle.rate_table.specs.declared.Rate.{Rate}
 use Rattle.rate_table.specs.Symbols.{bits_through_tail, symbol_count}
 use Rattle.rate_table.specs.Table.{row_of}
 use Rattle.rate_table.proofs.ByRate.{by_rate}
+use Rattle.puncture_map.specs.Carried.{carried_pair}
 use Rattle.puncture_map.specs.Kept.{is_kept, kept_count, rank}
 use Rattle.puncture_map.proofs.Counts.{kept_count-symbols}
 use Rattle.puncture_map.proofs.Ranks.{kept_count-rises, rank-more}
@@ -70,7 +71,7 @@ marks_behind rate before symbol symbols place long =
     ∙ ap (λ decision. if is_kept code_rate place then (if decision == 0 then Zero else One) else Absent) read
 
 pair_behind : (rate : Rate) (before symbol : List ℕ) (symbols step : ℕ) → length before ≡ symbols * (row_of rate).coded_bits → marks_at (row_of rate).code_rate (before ++ symbol) (symbols * (row_of rate).field_bits + step) ≡ marks_at (row_of rate).code_rate symbol step
-unfolding marks_at
+unfolding carried_pair
 pair_behind rate before symbol symbols step long =
     let base = symbols * (row_of rate).field_bits in
     let first : 2 * (base + step) ≡ 2 * base + 2 * step = omega arith in

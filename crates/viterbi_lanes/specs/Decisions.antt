@@ -1,34 +1,33 @@
 -- The marks of hard decisions (own), over the kept places of the code (IEEE Std 802.11-2012,
 -- 18.3.5.6): these carry the decisions in order, and the marks of all other places are absent.
-use Rattle.std.specs.Prelude.{ℕ, ◌+◌, ◌*◌, ◌==◌, ◌≤◌, List, map, min, slice_index, if◌then◌else◌}
-use Rattle.std.specs.List.{range_with_len}
+use Rattle.std.specs.Prelude.{ℕ, ◌*◌, ◌==◌, ◌≤◌, List, min, if◌then◌else◌}
 use Rattle.bit_lists.specs.Bits.{AreBits}
 use Rattle.rate_table.specs.declared.CodeRate.{CodeRate}
 use Rattle.rate_table.specs.declared.Rate.{Rate}
 use Rattle.rate_table.specs.Symbols.{bits_through_tail}
 use Rattle.rate_table.specs.Table.{flip_bound_of, row_of}
-use Rattle.puncture_map.specs.Kept.{is_kept, kept_count, kept_code, rank}
+use Rattle.puncture_map.specs.Carried.{carried_at, carried_pair, carried_pairs}
+use Rattle.puncture_map.specs.Kept.{kept_count, kept_code}
 use Rattle.survivor_memory.specs.Nearest.{IsClosed}
 use Rattle.kept_weights.specs.Weights.{distance_over}
 use Rattle.viterbi_lanes.specs.declared.Mark.{Mark}
 use Rattle.viterbi_lanes.specs.declared.Mark.TheVariants.{Zero, One, Absent}
 
--- the mark at a place of the code: a kept place has the decision of its rank; behind their end
--- decisions are read as 0, and whoever cites this has enough of them
+-- the mark of a decision
+abbrev pub mark_of : ℕ → Mark
+mark_of decision = if decision == 0 then Zero else One
+
+-- the mark at a place of the code: a kept place has that of the decision of its rank
 abbrev pub mark_at : CodeRate → List ℕ → ℕ → Mark
-mark_at rate decisions place =
-    if is_kept rate place
-    then (if slice_index decisions (rank rate place) == 0 then Zero else One)
-    else Absent
+mark_at rate decisions place = carried_at mark_of Absent rate decisions place
 
 -- the pair of marks of a step, for A and for B
-unfoldable pub marks_at : CodeRate → List ℕ → ℕ → Mark × Mark
-marks_at rate decisions step =
-    (mark_at rate decisions (2 * step), mark_at rate decisions (2 * step + 1))
+abbrev pub marks_at : CodeRate → List ℕ → ℕ → Mark × Mark
+marks_at rate decisions step = carried_pair mark_of Absent rate decisions step
 
 -- the pairs of marks of so many steps
 abbrev pub marks_of : CodeRate → List ℕ → ℕ → List (Mark × Mark)
-marks_of rate decisions steps = map (marks_at rate decisions) (range_with_len 0 steps)
+marks_of rate decisions steps = carried_pairs mark_of Absent rate decisions steps
 
 -- how many decisions differ from the kept code of a list of so many bits
 abbrev pub changes : CodeRate → ℕ → List ℕ → List ℕ → ℕ

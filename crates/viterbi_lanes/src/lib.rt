@@ -71,6 +71,7 @@ impl Trellis {
 
     /// Appends one pair of marks, for A and for B; there is room for it. The count of steps rises by one. Takes no
     /// memory.
+    #[inline(always)]
     pub fn step(&mut self, a: Mark, b: Mark, steps: &mut Steps)
         requires { length self.old.rows < self.old.room }
         ensures appended { (marks : List (Mark × Mark)) → StandsFor self.old marks

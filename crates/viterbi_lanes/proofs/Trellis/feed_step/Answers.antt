@@ -1,18 +1,11 @@
-use Rattle.std.proofs.Common.{ℕ, ◌+◌, ◌*◌, ◌≡◌, Bool, List, length, get_or, arith, sym, ◌++◌, ◌∷◌, [], ◌∙◌, append_assoc}
-use Rattle.std.specs.Prelude.{◌==◌, if◌then◌else◌}
-use Rattle.rate_table.specs.declared.CodeRate.{CodeRate}
-use Rattle.puncture_map.specs.Kept.{is_kept, rank}
+use Rattle.std.proofs.Common.{◌+◌, ◌*◌, ◌≡◌, length, arith, sym, ◌++◌, ◌∷◌, [], append_assoc}
+use Rattle.puncture_map.specs.Carried.{carried_pair}
+use Rattle.puncture_map.proofs.Carried.{carried_is}
 use Rattle.puncture_map.proofs.Periods.{byte_le, rank-counted, rank-within}
-use Rattle.viterbi_lanes.specs.declared.Mark.{Mark}
-use Rattle.viterbi_lanes.specs.declared.Mark.TheVariants.{Zero, One, Absent}
-use Rattle.viterbi_lanes.specs.Decisions.{mark_at, marks_at, marks_of}
+use Rattle.viterbi_lanes.specs.declared.Mark.TheVariants.{Absent}
+use Rattle.viterbi_lanes.specs.Decisions.{mark_at, mark_of, marks_of}
 use Rattle.viterbi_lanes.proofs.Decisions.{marks_of_more}
 use Rattle.viterbi_lanes.proofs.Trellis.feed_step.Goals as goal
-
--- the mark of a place, by whether it is kept, and its rank
-mark_is : (rate : CodeRate) (decisions : List ℕ) (place next : ℕ) (kept : Bool) (mark : Mark) → kept ≡ is_kept rate place → next ≡ rank rate place
-    → mark ≡ (if kept then (if get_or decisions next 0 == 0 then Zero else One) else Absent) → mark ≡ mark_at rate decisions place
-mark_is rate decisions place next kept mark is at made = made ∙ rw (is, at)
 
 pub mark-a-requires : goal.mark-a-requires
 mark-a-requires c = λ kept.
@@ -32,7 +25,7 @@ pub overflow_add-next : goal.overflow_add-next
 overflow_add-next c = record { fits = omega (arith, c.requires.few, c.from.ensures, byte_le c.kept_in_period-a_is_kept.result.0) }
 
 pub returns-clause-appended : goal.returns-clause-appended
-unfolding marks_at
+unfolding carried_pair
 returns-clause-appended c = λ marks step phase at stands.
     let rate = c.args.rate in
     let decisions = c.args.decisions.now in
@@ -40,9 +33,9 @@ returns-clause-appended c = λ marks step phase at stands.
     let first = kept.ensures.first step phase in
     let second = kept.ensures.second step phase in
     let next = rank-counted rate (2 * step) c.from.result kept.result.0 c.from.ensures first in
-    let a : c.mark-a.result ≡ mark_at rate decisions (2 * step) = mark_is rate decisions (2 * step) c.args.next kept.result.0 c.mark-a.result first at c.mark-a.ensures in
+    let a : c.mark-a.result ≡ mark_at rate decisions (2 * step) = carried_is mark_of Absent rate decisions (2 * step) c.args.next kept.result.0 c.mark-a.result first at c.mark-a.ensures in
     let b : c.mark-b.result ≡ mark_at rate decisions (2 * step + 1) =
-    mark_is rate decisions (2 * step + 1) (c.args.next + c.from.result) kept.result.1 c.mark-b.result second (omega (arith, next, at)) c.mark-b.ensures
+    carried_is mark_of Absent rate decisions (2 * step + 1) (c.args.next + c.from.result) kept.result.1 c.mark-b.result second (omega (arith, next, at)) c.mark-b.ensures
     in
     let before = marks_of rate decisions step in
     let pair : before ++ (c.mark-a.result, c.mark-b.result) ∷ [] ≡ marks_of rate decisions (step + 1) = rw (a, b) (sym (marks_of_more rate decisions step)) in

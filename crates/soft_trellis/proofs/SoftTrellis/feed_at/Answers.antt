@@ -1,21 +1,12 @@
-use Rattle.std.proofs.Common.{ℕ, ◌+◌, ◌*◌, ◌≡◌, ◌<◌, ◌≤◌, Bool, true, false, cond, List, length, ◌%◌, ◌^◌, Fits, w64, get_or, arith, refl, inl, inr, sym, ap, ◌++◌, ◌∷◌, [], ◌∙◌, append_assoc, append-nil}
-use Rattle.std.specs.Prelude.{if◌then◌else◌}
-use mir.Val.{bool_byte}
+use Rattle.std.proofs.Common.{◌+◌, ◌*◌, ◌≡◌, length, arith, refl, inl, inr, sym, ◌++◌, ◌∷◌, [], append_assoc, append-nil}
 use Rattle.std.proofs.lemmas.Bool.{cases_lt}
-use Rattle.rate_table.specs.declared.CodeRate.{CodeRate}
-use Rattle.rate_table.specs.declared.CodeRate.TheVariants.{Half, TwoThirds, ThreeQuarters}
-use Rattle.puncture_map.specs.Kept.{is_kept, kept_count, period_of, rank}
+use Rattle.puncture_map.specs.Carried.{carried_pair}
+use Rattle.puncture_map.proofs.Carried.{carried_is}
 use Rattle.puncture_map.proofs.Periods.{at_start, byte_le, rank-counted, rank-within}
-use Rattle.soft_trellis.specs.declared.Soft.{Soft}
 use Rattle.soft_trellis.specs.declared.Soft.TheVariants.{Absent, Cost}
-use Rattle.soft_trellis.specs.Values.{mark_at, marks_at, marks_of}
+use Rattle.soft_trellis.specs.Values.{mark_at, marks_of}
 use Rattle.soft_trellis.proofs.Marks.{marks_of_more}
-use Rattle.soft_trellis.proofs.SoftTrellis.feed.Goals as goal
-
--- the mark of a place, by whether it is kept, and its rank
-mark_is : (rate : CodeRate) (values : List ℕ) (place next : ℕ) (kept : Bool) (mark : Soft) → kept ≡ is_kept rate place → next ≡ rank rate place
-    → mark ≡ (if kept then Cost (get_or values next 0) else Absent) → mark ≡ mark_at rate values place
-mark_is rate values place next kept mark is at made = made ∙ rw (is, at)
+use Rattle.soft_trellis.proofs.SoftTrellis.feed_at.Goals as goal
 
 pub mark-a-requires-clause-next : goal.mark-a-requires-clause-next
 mark-a-requires-clause-next c = λ kept.
@@ -45,7 +36,7 @@ loop-step-init c = record {
 }
 
 pub loop-step-preserved : goal.loop-step-preserved
-unfolding marks_at
+unfolding carried_pair
 loop-step-preserved c =
     let rate = c.args.rate in
     let values = c.args.values.now in
@@ -55,9 +46,9 @@ loop-step-preserved c =
     let second = kept.ensures.second step c.loop-step.invariant.phase in
     let next = rank-counted rate (2 * step) c.from-next.result kept.result.0 c.from-next.ensures first in
     let after = rank-counted rate (2 * step + 1) c.from-next-in-loop-step.result kept.result.1 c.from-next-in-loop-step.ensures second in
-    let a : c.mark-a.result ≡ mark_at rate values (2 * step) = mark_is rate values (2 * step) c.loop-step.next kept.result.0 c.mark-a.result first c.loop-step.invariant.next c.mark-a.ensures.mark in
+    let a : c.mark-a.result ≡ mark_at rate values (2 * step) = carried_is (λ value. Cost value) Absent rate values (2 * step) c.loop-step.next kept.result.0 c.mark-a.result first c.loop-step.invariant.next c.mark-a.ensures.mark in
     let b : c.mark-b.result ≡ mark_at rate values (2 * step + 1) =
-    mark_is rate values (2 * step + 1) (c.loop-step.next + c.from-next.result) kept.result.1 c.mark-b.result second (omega (arith, next, c.loop-step.invariant.next)) c.mark-b.ensures.mark
+    carried_is (λ value. Cost value) Absent rate values (2 * step + 1) (c.loop-step.next + c.from-next.result) kept.result.1 c.mark-b.result second (omega (arith, next, c.loop-step.invariant.next)) c.mark-b.ensures.mark
     in
     let places : 2 * (step + 1) ≡ 2 * step + 1 + 1 = omega arith in
     record {
