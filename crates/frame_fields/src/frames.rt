@@ -28,7 +28,7 @@ use ofdm_scrambler::Seed;
 use rate_table::Rate;
 use signal_field::{Header, header_code};
 use std::alloc::{AllocError, Global};
-use symbol_builder::{frame_len, symbol_points, symbol_samples};
+use symbol_builder::{frame_len, put_code_points, symbol_samples};
 use thiserror::Error;
 use training_fields::preamble;
 
@@ -157,7 +157,9 @@ pub fn points_of_code(rate: Rate, symbol: &[u8]) -> [Cx; 48]
     ensures points { result ≡ points_of_code rate symbol.now }
     ensures within { PairsWithin 700 result }
 {
-    symbol_points(rate.modulation(), &interleaved_symbol(rate, symbol))
+    let mut points = [Cx { re: 0, im: 0 }; 48];
+    put_code_points(rate, symbol, &mut points);
+    points
 }
 
 /// The interleaved bits of a symbol, from its N_CBPS coded bits: the first N_CBPS entries, and 0 behind them

@@ -9,10 +9,12 @@ ghost use Rattle.interleave_two.specs.Place.{first_place, second_place, group_of
 ghost use Rattle.interleave_two.specs.Source.{first_source, second_source};
 
 use rate_table::Rate;
-use tables::{places_in_order, sources_in_order};
+use tables::places_in_order;
 
 pub mod examples;
 mod tables;
+
+pub use tables::sources_in_order;
 
 /// The place, below N_CBPS, to which bit k of a symbol goes, for k below N_CBPS.
 pub fn place(rate: Rate, k: usize) -> usize

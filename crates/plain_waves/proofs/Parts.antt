@@ -39,9 +39,9 @@ rounded_word v small fits =
     ap (λ m. to_z w16 (of_z w16 (to_z w32 (of_z w32 (floor_div m 512))))) (held_word v small)
     ∙ held_word_in_16 (floor_div (v +ℤ pos 256) 512) fits
 
--- a part of a carrier, times 256
-pub times_256 : (z : ℤ) → unsigned_abs z ≤ 954 → to_z w64 (of_z w64 (pos 256 *ℤ to_z w64 (of_z w64 z))) ≡ pos 256 *ℤ z
-times_256 z small = omega (arith, ints)
+-- a part of a carrier, times 256, as a word
+pub word_256 : (part word : ℤ) → unsigned_abs part ≤ 954 → word ≡ pos 256 *ℤ to_z w64 (of_z w64 part) → to_z w32 (of_z w32 word) ≡ pos 256 *ℤ part
+word_256 part word small is = omega (arith, ints)
 
 by_256_within : (x : Cx) → IsWithin 954 x → IsWithin (2 ^ 18) (multiple (pos 256) x)
 by_256_within x within = let re = within.re in let im = within.im in record { re = omega (arith, ints); im = omega (arith, ints) }

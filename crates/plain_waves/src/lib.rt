@@ -2,16 +2,16 @@
 //! memory.
 #![tactic(auto)]
 
-ghost use Rattle.std.specs.Prelude.{◌≡◌, ℕ, ◌+◌, ◌-◌, ◌*◌, ◌^◌, ◌<◌};
-ghost use Rattle.fixed_complex.specs.PairLists.{PairsOfSize, PairsWithin, by_256, entry};
+ghost use Rattle.std.specs.Prelude.{◌≡◌, ℕ, ◌+◌, ◌-◌, ◌*◌, ◌^◌, ◌<◌, ◌≤◌, length, pos, ◌*ℤ◌, unsigned_abs};
+ghost use Rattle.fixed_complex.specs.PairLists.{PairsWithin, by_256, entry};
 ghost use Rattle.fixed_complex.specs.Samples.{IsSampleWithin, SamplesWithin, sample_at};
 ghost use Rattle.fixed_complex.specs.Pairs.{IsWithin};
-ghost use Rattle.butterfly64.specs.Rows.{row_lane};
+ghost use Rattle.butterfly64.specs.Rows.{RowsOfSize, place_in, row_lane};
 ghost use Rattle.plain_waves.specs.Bodies.{all_times, plain_body, plain_sample, sample_of, sent_body};
 ghost use Rattle.plain_waves.specs.Bounds.{FitASample};
 ghost use Rattle.plain_waves.specs.Nearness.{AreNearPlain};
 
-use butterfly64::{Row, rows_of, up_rows};
+use butterfly64::{Row, up_rows};
 use fixed_complex::{Cx, Sample, add, mul, turn};
 
 pub mod laws;
@@ -30,43 +30,87 @@ pub fn sent_samples(carriers: &[Cx; 64]) -> [Sample; 64]
     ensures near { AreNearPlain 1 result (all_times (plain_body (entry carriers.now))) }
     ensures within { SamplesWithin 25057 result }
 {
-    let mut sums = rows_of(&by_256(carriers));
-    up_rows(&mut sums);
     let mut samples = [SILENCE; 64];
-    for r in 0..8 {
-        put_samples(&mut samples, r, &sums[r]);
-    }
+    put_sent_samples(carriers, &mut samples);
     samples
+}
+
+/// The same, put in place of 64 samples (own).
+#[inline(always)]
+pub fn put_sent_samples(carriers: &[Cx; 64], samples: &mut [Sample])
+    requires within { PairsWithin 954 carriers.now }
+    requires fits { FitASample carriers.now }
+    requires places { length samples.old ≡ 64 }
+    ensures samples { samples.new ≡ all_times (sent_body (entry carriers.now)) }
+    ensures near { AreNearPlain 1 samples.new (all_times (plain_body (entry carriers.now))) }
+    ensures within { SamplesWithin 25057 samples.new }
+{
+    let mut sums = rows_by_256(carriers);
+    up_rows(&mut sums);
+    for r in 0..8 {
+        put_samples(samples, r, &sums[r]);
+    }
 }
 
 // Puts the samples of a row of staged sums to their eight places.
 #[inline(always)]
-fn put_samples(samples: &mut [Sample; 64], r: usize, sums: &Row)
+fn put_samples(samples: &mut [Sample], r: usize, sums: &Row)
+    requires places { length samples.old ≡ 64 }
     requires row { r < 8 }
     requires words { (l : ℕ) → l < 8 → IsWithin (2 ^ 31 - 2 ^ 9) (row_lane sums.now l) }
     requires fits { (l : ℕ) → l < 8 → IsSampleWithin 25057 (sample_of 9 (row_lane sums.now l)) }
     ensures put { (l : ℕ) → l < 8 → sample_at samples.new (8 * r + l) ≡ sample_of 9 (row_lane sums.now l) }
     ensures before { (n : ℕ) → n < 8 * r → sample_at samples.new n ≡ sample_at samples.old n }
+    ensures places { length samples.new ≡ 64 }
 {
     for l in 0..8 {
         samples[8 * r + l] = over_2_9(sums, l);
     }
 }
 
-// The carriers times 256.
-fn by_256(carriers: &[Cx; 64]) -> [Cx; 64]
+// The carriers times 256, in rows of words.
+#[inline(always)]
+fn rows_by_256(carriers: &[Cx; 64]) -> [Row; 8]
     requires { PairsWithin 954 carriers.now }
-    ensures carriers { (bin : ℕ) → bin < 64 → entry result bin ≡ by_256 (entry carriers.now) bin }
-    ensures sizes { PairsOfSize (2 ^ 24) result }
+    ensures carriers { (n : ℕ) → n < 64 → place_in result n ≡ by_256 (entry carriers.now) n }
+    ensures sizes { RowsOfSize (2 ^ 24) result }
 {
-    let mut enlarged = *carriers;
-    for bin in 0..64 {
-        enlarged[bin] = Cx {
-            re: 256 * carriers[bin].re,
-            im: 256 * carriers[bin].im,
-        };
+    let mut rows = [Row {
+        re: [0; 8],
+        im: [0; 8],
+    }; 8];
+    for r in 0..8 {
+        rows[r] = row_by_256(carriers, r);
     }
-    enlarged
+    rows
+}
+
+// The eight carriers of a row, times 256.
+#[inline(always)]
+fn row_by_256(carriers: &[Cx; 64], r: usize) -> Row
+    requires row { r < 8 }
+    requires carriers { PairsWithin 954 carriers.now }
+    ensures { (l : ℕ) → l < 8 → row_lane result l ≡ by_256 (entry carriers.now) (8 * r + l) }
+{
+    let mut row = Row {
+        re: [0; 8],
+        im: [0; 8],
+    };
+    for l in 0..8 {
+        let carrier = carriers[8 * r + l];
+        row.re[l] = word_by_256(carrier.re);
+        row.im[l] = word_by_256(carrier.im);
+    }
+    row
+}
+
+// A part of a carrier times 256, as a word.
+#[inline(always)]
+fn word_by_256(part: i64) -> i32
+    requires { unsigned_abs part ≤ 954 }
+    ensures { result ≡ pos 256 *ℤ part }
+{
+    256 * part as i32
 }
 
 // A sample: the staged sum in a lane over 512, rounded half up.

@@ -1,13 +1,15 @@
 -- The kept bits of a code, place by place.
-use Rattle.std.proofs.Common.{◌≡◌, ℕ, ◌+◌, ◌-◌, ◌<◌, ◌≤◌, zero, suc, true, false, cond, List, [], ◌∷◌, ◌++◌, length, map, take, slice_index, get_or, refl, sym, ap, ◌∙◌, arith}
+use Rattle.std.proofs.Common.{◌≡◌, ℕ, ◌+◌, ◌-◌, ◌*◌, ◌%◌, ◌<◌, ◌≤◌, zero, suc, true, false, cond, List, [], ◌∷◌, ◌++◌, length, map, take, drop, slice_index, get_or, refl, sym, ap, inl, inr, ◌∙◌, arith}
 use Rattle.std.specs.List.{All, range_with_len}
-use Rattle.std.proofs.lemmas.List.{append-nil, append_assoc, map-append, length-map, take_at, get_or-take, get_or_push, length-take-le}
+use Rattle.std.proofs.lemmas.List.{append-nil, append_assoc, get_or-drop, map-append, length-drop, length-map, take_at, get_or-take, get_or_push, length-take-le, take_more}
 use Rattle.std.proofs.lemmas.List.Elements.{All-map, All-filter, All-head, All-tail}
 use Rattle.std.proofs.lemmas.List.FromFn.{length-range_with_len, get_or-range_with_len}
+use Rattle.std.proofs.lemmas.Bool.{cases_Bool}
 use Rattle.bit_lists.specs.Bits.{IsBit, AreBits}
 use Rattle.bit_lists.proofs.BitFacts.{IsBit-slice_index}
 use Rattle.rate_table.specs.declared.CodeRate.{CodeRate}
-use Rattle.puncture_map.specs.Kept.{is_kept, kept_places, kept_list, rank}
+use Rattle.rate_table.specs.declared.CodeRate.TheVariants.{Half, TwoThirds, ThreeQuarters}
+use Rattle.puncture_map.specs.Kept.{is_kept, kept_places, kept_list, period_of, rank}
 use Rattle.puncture_map.proofs.Ranks.{kept_places-more, rank-more}
 
 -- the bits at the kept places below a number
@@ -90,3 +92,59 @@ kept_list-rank rate code n within kept =
     ∙ ap (λ xs. get_or xs (rank rate n) 0) split
     ∙ get_or_push (kept_bits rate front n) (slice_index front n) 0 (rank rate n) (length-map (kept_places rate n) (slice_index front))
     ∙ get_or-take (n + 1) code n 0 (omega arith)
+
+-- the places behind whole periods are kept as those behind none are
+is_kept-behind : (rate : CodeRate) (begun d : ℕ) → begun % (2 * period_of rate) ≡ 0 → is_kept rate (begun + d) ≡ is_kept rate d
+is_kept-behind Half begun d whole = refl
+is_kept-behind TwoThirds begun d whole = let same : (begun + d) % 4 ≡ d % 4 = omega arith in rw same
+is_kept-behind ThreeQuarters begun d whole = let same : (begun + d) % 6 ≡ d % 6 = omega arith in rw same
+
+-- behind whole periods stand the kept bits of the rest
+kept_bits-behind : (rate : CodeRate) (code : List ℕ) (begun d : ℕ) → begun % (2 * period_of rate) ≡ 0
+    → kept_bits rate code (begun + d) ≡ kept_bits rate code begun ++ kept_bits rate (drop begun code) d
+kept_bits-behind rate code begun zero whole = let same : begun + zero ≡ begun = omega arith in ap (kept_bits rate code) same ∙ sym (append-nil (kept_bits rate code begun))
+kept_bits-behind rate code begun (suc d) whole =
+    let next : begun + suc d ≡ begun + d + 1 = omega arith in
+    let one : suc d ≡ d + 1 = omega arith in
+    let rest = drop begun code in
+    let before = kept_bits-behind rate code begun d whole in
+    let same = is_kept-behind rate begun d whole in
+    let at : slice_index rest d ≡ slice_index code (begun + d) = get_or-drop begun code d 0 in
+    let more : kept_bits rate code (begun + d + 1) ≡ kept_bits rate code begun ++ kept_bits rate rest (d + 1) =
+    elim (cases_Bool (is_kept rate d)) [
+      | inl kept ↦
+          kept_bits-kept rate code (begun + d) (same ∙ kept)
+          ∙ ap (λ bits. bits ++ slice_index code (begun + d) ∷ []) before
+          ∙ append_assoc (kept_bits rate code begun) (kept_bits rate rest d) (slice_index code (begun + d) ∷ [])
+          ∙ ap (λ bit. kept_bits rate code begun ++ (kept_bits rate rest d ++ bit ∷ [])) (sym at)
+          ∙ ap (λ bits. kept_bits rate code begun ++ bits) (sym (kept_bits-kept rate rest d kept))
+      | inr dropped ↦
+          kept_bits-dropped rate code (begun + d) (same ∙ dropped)
+          ∙ before
+          ∙ ap (λ bits. kept_bits rate code begun ++ bits) (sym (kept_bits-dropped rate rest d dropped))
+    ]
+    in
+    ap (kept_bits rate code) next ∙ more ∙ ap (λ n. kept_bits rate code begun ++ kept_bits rate rest n) (sym one)
+
+-- and so the kept bits of a part of the code that begins behind whole periods
+pub kept_bits-part : (rate : CodeRate) (code : List ℕ) (begun behind : ℕ) → begun % (2 * period_of rate) ≡ 0 → begun ≤ behind → behind ≤ length code
+    → kept_bits rate code behind ≡ kept_bits rate code begun ++ kept_list rate (take (behind - begun) (drop begun code))
+kept_bits-part rate code begun behind whole after within =
+    let rest = drop begun code in
+    let d = behind - begun in
+    let place : behind ≡ begun + d = omega arith in
+    let long : length (take d rest) ≡ d = length-take-le d rest (omega (arith, length-drop begun code)) in
+    ap (kept_bits rate code) place
+    ∙ kept_bits-behind rate code begun d whole
+    ∙ ap (λ bits. kept_bits rate code begun ++ bits) (sym (ap (kept_bits rate (take d rest)) long ∙ kept_bits-take rate rest d))
+
+-- at 1/2 all are kept
+pub kept_bits-half : (code : List ℕ) (n : ℕ) → n ≤ length code → kept_bits Half code n ≡ take n code
+kept_bits-half code zero within = refl
+kept_bits-half code (suc n) within =
+    let one : suc n ≡ n + 1 = omega arith in
+    ap (kept_bits Half code) one
+    ∙ kept_bits-kept Half code n refl
+    ∙ ap (λ bits. bits ++ slice_index code n ∷ []) (kept_bits-half code n (omega arith))
+    ∙ sym (take_more code n 0 (omega arith))
+    ∙ ap (λ m. take m code) (sym one)

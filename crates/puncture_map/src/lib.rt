@@ -2,13 +2,15 @@
 //! has two places, A and then B. Periods run through the whole field without a restart.
 #![tactic(auto)]
 
-ghost use Rattle.std.specs.Prelude.{◌≡◌, ℕ, ◌+◌, ◌*◌, ◌%◌, ◌<◌, ◌≤◌, ◌^◌, IfOk, OnOk, length, map, slice_index, vec_len};
+ghost use Rattle.std.specs.Prelude.{◌≡◌, ℕ, ◌+◌, ◌*◌, ◌/◌, ◌%◌, ◌<◌, ◌≤◌, ◌^◌, IfOk, OnOk, [], length, map, slice_index, take, vec_len};
 ghost use Rattle.bit_lists.specs.Bits.{AreBits};
+ghost use Rattle.rate_table.specs.declared.CodeRate.TheVariants.{TwoThirds, ThreeQuarters};
 ghost use Rattle.puncture_map.specs.Kept.{is_kept, kept_count, kept_list, kept_places, period_of, count_by_periods};
 ghost use Rattle.puncture_map.specs.WholeSymbols.{CountsWholeSymbols, LeavesWholeSymbols, LeavesSymbolBySymbol};
 
 use rate_table::CodeRate;
 use std::alloc::{AllocError, Global};
+use std::simd::prelude::*;
 
 pub mod laws;
 
@@ -84,41 +86,89 @@ pub fn puncture(alloc: Global, rate: CodeRate, code: &[u8]) -> Result<Vec<u8>, A
     ensures symbol_by_symbol { IfOk result (λ kept. LeavesSymbolBySymbol rate code.now kept.items) }
 {
     let mut bits = Vec::with_capacity(alloc, code.len())?;
-    let places = 2 * period(rate);
-    let periods = code.len() / places;
-    for begun in 0..periods {
-        put_period(&mut bits, rate, code, places * begun)?;
-    }
-    put_rest(&mut bits, rate, code, places * periods)?;
+    let place = put_periods(&mut bits, rate, code)?;
+    put_rest(&mut bits, rate, code, place)?;
     Ok(bits)
 }
 
-// Appends the kept bits of the period of a code that begins at a place.
-fn put_period(
-    bits: &mut Vec<u8>,
-    rate: CodeRate,
-    code: &[u8],
-    place: usize,
-) -> Result<(), AllocError>
-    requires begins { place % (2 * period_of rate) ≡ 0 }
-    requires within { place + 2 * period_of rate ≤ length code.now }
-    ensures { bits.old.items ≡ map (slice_index code.now) (kept_places rate place)
-        → OnOk result
-        (bits.new.items
-        ≡ map (slice_index code.now) (kept_places rate (place + 2 * period_of rate))) }
+// Puts the kept bits of whole periods of a code, and gives the place behind them.
+fn put_periods(bits: &mut Vec<u8>, rate: CodeRate, code: &[u8]) -> Result<usize, AllocError>
+    requires short { length code.now ≤ 2 ^ 20 }
+    requires empty { bits.old.items ≡ [] }
+    ensures within { IfOk result (λ place. place ≤ length code.now) }
+    ensures kept { IfOk result (λ place. bits.new.items
+        ≡ map (slice_index code.now) (kept_places rate place)) }
 {
     match rate {
-        CodeRate::Half => bits.extend_from_slice(&[code[place], code[place + 1]]),
-        CodeRate::TwoThirds => {
-            bits.extend_from_slice(&[code[place], code[place + 1], code[place + 2]])
+        CodeRate::Half => {
+            bits.extend_from_slice(code)?;
+            Ok(code.len())
         }
-        CodeRate::ThreeQuarters => bits.extend_from_slice(&[
-            code[place],
-            code[place + 1],
-            code[place + 2],
-            code[place + 5],
-        ]),
+        CodeRate::TwoThirds => {
+            put_sixteens(bits, code)?;
+            Ok(16 * (code.len() / 16))
+        }
+        CodeRate::ThreeQuarters => {
+            put_twenty_fours(bits, code)?;
+            Ok(24 * (code.len() / 24))
+        }
     }
+}
+
+// Puts the kept bits at 2/3 of four periods of a code at a time, as long as there are four.
+fn put_sixteens(bits: &mut Vec<u8>, code: &[u8]) -> Result<(), AllocError>
+    requires empty { bits.old.items ≡ [] }
+    ensures { OnOk result (bits.new.items
+        ≡ map (slice_index code.now) (kept_places TwoThirds (16 * (length code.now / 16)))) }
+{
+    for begun in 0..code.len() / 16 {
+        let kept = kept_of_sixteen(&code[16 * begun..16 * begun + 16]);
+        bits.extend_from_slice(&kept[..12])?;
+    }
+    Ok(())
+}
+
+// The kept bits of four periods at 2/3, 12 of them, and four dropped ones behind them.
+#[inline(always)]
+fn kept_of_sixteen(code: &[u8]) -> [u8; 16]
+    requires { length code.now ≡ 16 }
+    ensures { take 12 result ≡ kept_list TwoThirds code.now }
+{
+    let lanes = u8x16::from_slice(code);
+    lanes
+        .swizzle([0, 1, 2, 4, 5, 6, 8, 9, 10, 12, 13, 14, 3, 7, 11, 15])
+        .to_array()
+}
+
+// Puts the kept bits at 3/4 of four periods of a code at a time, as long as there are four.
+fn put_twenty_fours(bits: &mut Vec<u8>, code: &[u8]) -> Result<(), AllocError>
+    requires empty { bits.old.items ≡ [] }
+    ensures { OnOk result (bits.new.items
+        ≡ map (slice_index code.now) (kept_places ThreeQuarters (24 * (length code.now / 24)))) }
+{
+    for begun in 0..code.len() / 24 {
+        let kept = kept_of_twenty_four(&code[24 * begun..24 * begun + 24]);
+        bits.extend_from_slice(&kept)?;
+    }
+    Ok(())
+}
+
+// The kept bits of four periods at 3/4, from the first and the last 16 places.
+#[inline(always)]
+fn kept_of_twenty_four(code: &[u8]) -> [u8; 16]
+    requires { length code.now ≡ 24 }
+    ensures { result ≡ kept_list ThreeQuarters code.now }
+{
+    let (first, last) = (
+        u8x16::from_slice(&code[..16]),
+        u8x16::from_slice(&code[8..]),
+    );
+    first
+        .shuffle(
+            last,
+            [0, 1, 2, 5, 6, 7, 8, 11, 12, 13, 14, 25, 26, 27, 28, 31],
+        )
+        .to_array()
 }
 
 // Appends the kept bits of a code from a place on.

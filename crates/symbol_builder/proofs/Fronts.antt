@@ -34,7 +34,7 @@ same_lists f g a (suc n) same =
     ∙ ap (λ rest. g a ∷ rest) (same_lists f g (a + 1) n (λ k le lt. same k (omega arith) (omega arith)))
 
 -- N_BPSC times d, and N_BPSC more, is at most 48 times N_BPSC
-group_within : (w d : ℕ) → d < 48 → w * d + w ≤ 48 * w
+pub group_within : (w d : ℕ) → d < 48 → w * d + w ≤ 48 * w
 group_within w d lt = let most : w * (d + 1) ≤ w * 48 = mul-le-mul_left w (omega arith) in omega (arith, most)
 
 -- the points of a symbol are those of its N_CBPS bits

@@ -1,5 +1,6 @@
 mod Fronts
 mod Polarities
+mod CodePoints
 pub mod Bins
 pub mod Pilots
 pub mod SymbolSizes

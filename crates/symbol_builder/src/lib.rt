@@ -14,12 +14,14 @@ use constellations::carrier_point;
 use fixed_complex::Cx;
 use rate_table::{Modulation, Rate};
 
+mod code_points;
 mod field;
 pub mod laws;
 mod samples;
 
+pub use code_points::put_code_points;
 pub use field::frame_field;
-pub use samples::{carriers, symbol_samples};
+pub use samples::{carriers, put_symbol, symbol_samples};
 
 /// How many samples of a frame stand before its DATA symbols: both training fields and SIGNAL.
 const HEAD_SAMPLES: u32 = 400;

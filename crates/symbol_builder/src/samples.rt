@@ -1,15 +1,17 @@
 //! The carriers and the samples of a symbol.
 ghost use Rattle.std.specs.Prelude.{◌≡◌};
 ghost use Rattle.fixed_complex.specs.PairLists.{PairsWithin};
-ghost use Rattle.fixed_complex.specs.Samples.{sample_at, SamplesWithin};
+ghost use Rattle.fixed_complex.specs.Samples.{SamplesWithin};
 ghost use Rattle.carrier_bins.specs.Bins.{all_bins};
 ghost use Rattle.plain_waves.specs.Nearness.{AreNearPlain};
-ghost use Rattle.symbol_builder.specs.Carriers.{pilot_at, plain_symbol, sent_symbol, symbol_bins, symbol_times};
+ghost use Rattle.symbol_builder.specs.Carriers.{pilot_at, plain_symbol, sent_symbol, symbol_bins};
 
 use crate::polarity;
 use carrier_bins::{bin, data_bin};
 use fixed_complex::{Cx, Sample};
-use plain_waves::sent_samples;
+use plain_waves::put_sent_samples;
+
+const ZERO: Cx = Cx { re: 0, im: 0 };
 
 // What a pilot carries, but for its sign.
 const PILOT_AMPLITUDE: i64 = 648;
@@ -22,24 +24,35 @@ pub fn carriers(points: &[Cx; 48], n: u32) -> [Cx; 64]
     ensures carriers { result ≡ symbol_bins points.now n }
     ensures within { PairsWithin 700 result }
 {
-    let mut carriers = pilots(n);
-    for k in 0..48 {
-        carriers[data_bin(k)] = points[k];
-    }
+    let mut carriers = [ZERO; 64];
+    put_carriers(points, n, &mut carriers);
     carriers
 }
 
-// The pilots of symbol n, by bin, and 0 elsewhere.
-fn pilots(n: u32) -> [Cx; 64]
-    ensures { result ≡ all_bins (pilot_at n) }
+// Puts what the carriers of symbol n carry in place of 64 pairs.
+#[inline(always)]
+fn put_carriers(points: &[Cx; 48], n: u32, carriers: &mut [Cx; 64])
+    requires { PairsWithin 700 points.now }
+    ensures carriers { carriers.new ≡ symbol_bins points.now n }
+    ensures within { PairsWithin 700 carriers.new }
+{
+    put_pilots(n, carriers);
+    for k in 0..48 {
+        carriers[data_bin(k)] = points[k];
+    }
+}
+
+// Puts the pilots of symbol n, by bin, and 0 elsewhere, in place of 64 pairs.
+#[inline(always)]
+fn put_pilots(n: u32, carriers: &mut [Cx; 64])
+    ensures { carriers.new ≡ all_bins (pilot_at n) }
 {
     let pilot = PILOT_AMPLITUDE * polarity(n);
-    let mut carriers = [Cx { re: 0, im: 0 }; 64];
+    *carriers = [ZERO; 64];
     carriers[bin(-21)] = Cx { re: pilot, im: 0 };
     carriers[bin(-7)] = Cx { re: pilot, im: 0 };
     carriers[bin(7)] = Cx { re: pilot, im: 0 };
     carriers[bin(21)] = Cx { re: -pilot, im: 0 };
-    carriers
 }
 
 /// The 80 sent samples of symbol n, the cyclic prefix first, from its 48 points, each component at most 700 in size
@@ -51,15 +64,21 @@ pub fn symbol_samples(points: &[Cx; 48], n: u32) -> [Sample; 80]
     ensures near { AreNearPlain 1 result (plain_symbol points.now n) }
     ensures within { SamplesWithin 25057 result }
 {
-    with_prefix(&sent_samples(&carriers(points, n)))
+    let mut samples = [Sample { i: 0, q: 0 }; 80];
+    put_symbol(points, n, &mut samples);
+    samples
 }
 
-// A symbol from its body: the body's last 16 samples, and the body.
-fn with_prefix(body: &[Sample; 64]) -> [Sample; 80]
-    ensures { result ≡ symbol_times (sample_at body.now) }
+/// The same, put in place of 80 samples (own). Takes no memory.
+pub fn put_symbol(points: &[Cx; 48], n: u32, samples: &mut [Sample; 80])
+    requires { PairsWithin 700 points.now }
+    ensures samples { samples.new ≡ sent_symbol points.now n }
+    ensures near { AreNearPlain 1 samples.new (plain_symbol points.now n) }
+    ensures within { SamplesWithin 25057 samples.new }
 {
-    let mut samples = [Sample { i: 0, q: 0 }; 80];
-    samples[..16].copy_from_slice(&body[48..]);
-    samples[16..].copy_from_slice(body);
-    samples
+    let mut bins = [ZERO; 64];
+    put_carriers(points, n, &mut bins);
+    let (prefix, body) = samples.split_at_mut(16);
+    put_sent_samples(&bins, body);
+    prefix.copy_from_slice(&body[48..]);
 }

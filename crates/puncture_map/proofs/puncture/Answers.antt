@@ -1,30 +1,16 @@
-use Rattle.std.proofs.Common.{◌≡◌, ℕ, ◌+◌, ◌*◌, ◌/◌, add-one, length, take, sym, ◌∙◌, ap, arith}
-use Rattle.std.proofs.Math.Nat.{mul-suc, mul-mod_right}
+use Rattle.std.proofs.Common.{◌*◌, length, take, sym, ◌∙◌, ap}
 use Rattle.std.proofs.lemmas.List.{length-map}
 use Rattle.std.specs.List.{slice_index}
 use Rattle.bit_lists.specs.Bits.{IsBit}
 use Rattle.std.proofs.lemmas.List.Elements.{All-same}
-use Rattle.puncture_map.specs.Kept.{kept_count, kept_places, period_of}
+use Rattle.puncture_map.specs.Kept.{kept_count, kept_places}
 use Rattle.rate_table.specs.Table.{row_of}
 use Rattle.puncture_map.proofs.Counts.{kept_count-symbols}
 use Rattle.puncture_map.proofs.KeptBits.{kept_bits, AreBits-kept_bits, kept_list-take}
 use Rattle.puncture_map.proofs.puncture.Goals as goal
 
--- a period more
-period_more : (half period begun : ℕ) → half ≡ period → 2 * half * (begun + 1) ≡ 2 * half * begun + 2 * period
-period_more half period begun same = rw (add-one, mul-suc (2 * half) begun, same)
-
-pub put_period-requires-clause-begins : goal.put_period-requires-clause-begins
-put_period-requires-clause-begins c = rw c.period-places.ensures (mul-mod_right (2 * period_of c.args.rate) c.loop-begun.begun)
-
-pub loop-begun-preserved : goal.loop-begun-preserved
-loop-begun-preserved c =
-    rw (period_more c.period-places.result (period_of c.args.rate) c.loop-begun.begun c.period-places.ensures) (c.in_ok-put_period.ensures c.loop-begun.invariant)
-
 pub returns-clause-list : goal.returns-clause-list
-returns-clause-list c =
-    let done : c.loop-begun.begun ≡ length c.args.code.now / (2 * c.period-places.result) = omega arith in
-    c.in_ok-put_rest.ensures (rw done at c.loop-begun.invariant)
+returns-clause-list c = c.in_ok-put_rest.ensures c.in_ok-place.ensures.kept
 
 pub returns-clause-bits : goal.returns-clause-bits
 returns-clause-bits c =

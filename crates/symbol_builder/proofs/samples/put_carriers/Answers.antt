@@ -10,13 +10,13 @@ use Rattle.carrier_bins.specs.Bins.{by_bin}
 use Rattle.symbol_builder.specs.Carriers.{pilot_at, symbol_bin}
 use Rattle.symbol_builder.proofs.Bins.{all_placed, none_placed, one_placed, others_stay, placed}
 use Rattle.symbol_builder.proofs.SymbolSizes.{symbol_within}
-use Rattle.symbol_builder.proofs.samples.carriers.Goals as goal
+use Rattle.symbol_builder.proofs.samples.put_carriers.Goals as goal
 
 pub loop-k-init : goal.loop-k-init
 loop-k-init c = record {
-  long = ap length c.pilots-carriers.ensures ∙ length-map-range_with_len (by_bin (pilot_at c.args.n)) 0 64;
+  long = ap length c.put_pilots.ensures ∙ length-map-range_with_len (by_bin (pilot_at c.args.n)) 0 64;
   each = λ bin lt.
-      ap (λ xs. entry xs bin) c.pilots-carriers.ensures ∙ entry-map (by_bin (pilot_at c.args.n)) 64 bin lt ∙ sym (none_placed c.args.points.now c.args.n bin);
+      ap (λ xs. entry xs bin) c.put_pilots.ensures ∙ entry-map (by_bin (pilot_at c.args.n)) 64 bin lt ∙ sym (none_placed c.args.points.now c.args.n bin);
 }
 
 -- one more point placed

@@ -1,7 +1,7 @@
 use Rattle.std.proofs.Common.{◌≡◌, ℕ, ◌<◌, length}
 use Rattle.fixed_complex.specs.PairLists.{entry}
 use Rattle.symbol_builder.proofs.Bins.{placed}
-use Rattle.symbol_builder.proofs.samples.carriers.Given as goal
+use Rattle.symbol_builder.proofs.samples.put_carriers.Given as goal
 
 abbrev pub invariant-loop-k : goal.invariant-loop-k
 invariant-loop-k l = record {

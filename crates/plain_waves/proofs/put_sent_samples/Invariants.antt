@@ -2,7 +2,7 @@ use Rattle.std.proofs.Common.{◌≡◌, ℕ, ◌*◌, ◌<◌, length}
 use Rattle.plain_waves.specs.Bodies.{sent_body}
 use Rattle.fixed_complex.specs.PairLists.{entry}
 use Rattle.fixed_complex.specs.Samples.{sample_at}
-use Rattle.plain_waves.proofs.sent_samples.Given as goal
+use Rattle.plain_waves.proofs.put_sent_samples.Given as goal
 
 abbrev pub invariant-loop-r : goal.invariant-loop-r
 invariant-loop-r l = record {

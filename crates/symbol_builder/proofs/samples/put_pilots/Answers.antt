@@ -7,7 +7,7 @@ use Rattle.carrier_bins.specs.Bins.{all_bins}
 use Rattle.carrier_bins.specs.Signs.{sign_at}
 use Rattle.symbol_builder.specs.Carriers.{pilot_sign_of}
 use Rattle.symbol_builder.proofs.Pilots.{polarity_cases, polarity_size}
-use Rattle.symbol_builder.proofs.samples.pilots.Goals as goal
+use Rattle.symbol_builder.proofs.samples.put_pilots.Goals as goal
 
 -- a pilot of a given polarity
 abbrev pilot_with : ℤ → ℤ → Cx
