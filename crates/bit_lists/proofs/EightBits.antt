@@ -13,24 +13,13 @@ use Rattle.std.proofs.lemmas.List.Concat.{flat_map-cons, get_or-flat_map}
 use Rattle.std.proofs.lemmas.Grind.{flat_map-append}
 use Rattle.std.specs.List.{range_with_len}
 use Rattle.std.specs.Int.{bit_at}
+use Rattle.integer_laws.proofs.FewPlaces.{at_eight}
 use Rattle.bit_lists.specs.Bits.{AreBits, AreOctets, bits_of_octet, bits_of_octets, octet_at, octets_of_bits}
 
 -- eight bits from a place on, with what each is worth
 pub octet_is : (bits : List ℕ) (p : ℕ) → octet_at bits p ≡ get_or bits p 0 + 2 * get_or bits (p + 1) 0 + 4 * get_or bits (p + 2) 0 + 8 * get_or bits (p + 3) 0 + 16 * get_or bits (p + 4) 0 + 32 * get_or bits (p + 5) 0 + 64 * get_or bits (p + 6) 0 + 128 * get_or bits (p + 7) 0
 unfolding octet_at
 octet_is bits p = let first : p + 0 ≡ p = omega arith in rw first (omega arith)
-
--- seven more after place p
-at_eight : (P : ℕ → Type 0) → P 0 → P 1 → P 2 → P 3 → P 4 → P 5 → P 6 → P 7 → (i : ℕ) → i < 8 → P i
-at_eight P a b c d e f g h zero lt = a
-at_eight P a b c d e f g h (suc zero) lt = b
-at_eight P a b c d e f g h (suc (suc zero)) lt = c
-at_eight P a b c d e f g h (suc (suc (suc zero))) lt = d
-at_eight P a b c d e f g h (suc (suc (suc (suc zero)))) lt = e
-at_eight P a b c d e f g h (suc (suc (suc (suc (suc zero))))) lt = f
-at_eight P a b c d e f g h (suc (suc (suc (suc (suc (suc zero)))))) lt = g
-at_eight P a b c d e f g h (suc (suc (suc (suc (suc (suc (suc zero))))))) lt = h
-at_eight P a b c d e f g h (suc (suc (suc (suc (suc (suc (suc (suc i)))))))) lt = absurd (omega arith)
 
 -- the bits of a number made of eight bits
 bits_of_sum : (o b0 b1 b2 b3 b4 b5 b6 b7 : ℕ) → b0 < 2 → b1 < 2 → b2 < 2 → b3 < 2 → b4 < 2 → b5 < 2 → b6 < 2 → b7 < 2 → o ≡ b0 + 2 * b1 + 4 * b2 + 8 * b3 + 16 * b4 + 32 * b5 + 64 * b6 + 128 * b7 → bits_of_octet o ≡ b0 ∷ b1 ∷ b2 ∷ b3 ∷ b4 ∷ b5 ∷ b6 ∷ b7 ∷ []

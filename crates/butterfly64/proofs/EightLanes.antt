@@ -1,5 +1,5 @@
 -- The stages within eight lanes.
-use Rattle.std.proofs.Common.{◌≡◌, ℕ, zero, suc, ◌+◌, ◌-◌, ◌*◌, ◌/◌, ◌%◌, ◌^◌, ◌<◌, ◌≤◌, true, false, cond, ltb, [], get_or, refl, ◌∙◌, arith}
+use Rattle.std.proofs.Common.{◌≡◌, ℕ, ◌+◌, ◌-◌, ◌*◌, ◌/◌, ◌%◌, ◌^◌, ◌<◌, ◌≤◌, true, false, cond, ltb, [], get_or, refl, ◌∙◌, arith}
 use Rattle.std.proofs.lemmas.Bool.{ltb-true, agree_below_at, agree_below}
 use Rattle.fixed_complex.specs.declared.Cx.{Cx}
 use Rattle.fixed_complex.specs.Pairs.{IsOfSize, plus, minus, conjugate, scaled_product}
@@ -12,6 +12,7 @@ use Rattle.fixed_complex.proofs.ByTable.{same_pairs, are_same}
 use Rattle.butterfly64.specs.declared.lane_turns.TheConstants.{TURNS}
 use Rattle.fixed_complex.proofs.PairSizes.{wider, size-plus, size-minus, size-conjugate, size-scaled_product}
 use Rattle.fixed_complex.proofs.TurnLaws.{turn-size}
+use Rattle.integer_laws.proofs.FewPlaces.{at_eight}
 use Rattle.butterfly64.proofs.Mirrors.{mirror_of-below}
 
 -- a lane after a join, from the parts that the code computes
@@ -42,26 +43,6 @@ parted_at-local k below x y h l lt =
     let low = h (low_place k l) (omega (arith, within)) in
     let high = h (low_place k l + 2 ^ k) within in
     rw (low, high)
-
--- what holds of four places, one by one
-pub at_four : (P : ℕ → Type 0) → P 0 → P 1 → P 2 → P 3 → (k : ℕ) → k < 4 → P k
-at_four P a b c d zero lt = a
-at_four P a b c d (suc zero) lt = b
-at_four P a b c d (suc (suc zero)) lt = c
-at_four P a b c d (suc (suc (suc zero))) lt = d
-at_four P a b c d (suc (suc (suc (suc k)))) lt = absurd (omega arith)
-
--- what holds of eight lanes, lane by lane
-pub at_eight : (P : ℕ → Type 0) → P 0 → P 1 → P 2 → P 3 → P 4 → P 5 → P 6 → P 7 → (l : ℕ) → l < 8 → P l
-at_eight P a b c d e f g h zero lt = a
-at_eight P a b c d e f g h (suc zero) lt = b
-at_eight P a b c d e f g h (suc (suc zero)) lt = c
-at_eight P a b c d e f g h (suc (suc (suc zero))) lt = d
-at_eight P a b c d e f g h (suc (suc (suc (suc zero)))) lt = e
-at_eight P a b c d e f g h (suc (suc (suc (suc (suc zero))))) lt = f
-at_eight P a b c d e f g h (suc (suc (suc (suc (suc (suc zero)))))) lt = g
-at_eight P a b c d e f g h (suc (suc (suc (suc (suc (suc (suc zero))))))) lt = h
-at_eight P a b c d e f g h (suc (suc (suc (suc (suc (suc (suc (suc l)))))))) lt = absurd (omega arith)
 
 -- three joins of eight pairs in mirror order are their staged sums
 three_joins : (x : ℕ → Cx) (l : ℕ) → l < 8 → joined_at 2 (joined_at 1 (joined_at 0 x)) l ≡ up_at 3 (λ m. x (mirror_of 3 m)) l

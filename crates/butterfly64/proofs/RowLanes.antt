@@ -14,7 +14,7 @@ use Rattle.fixed_complex.specs.declared.Cx.{Cx}
 use Rattle.fixed_complex.specs.Pairs.{IsOfSize, IsWithin, conjugate, minus, plus, scaled_product}
 use Rattle.fixed_complex.proofs.Numbers.{within_eight}
 use Rattle.fixed_complex.proofs.PairSizes.{size-conjugate, size-minus, size-scaled_product, wider, within-size}
-use Rattle.butterfly64.proofs.EightLanes.{at_eight}
+use Rattle.integer_laws.proofs.FewPlaces.{at_eight}
 use Rattle.butterfly64.specs.declared.lanes.Eight.{Eight}
 use Rattle.butterfly64.specs.declared.rows.Row.{Row}
 use Rattle.butterfly64.specs.Lanes.{lane}

@@ -1,4 +1,5 @@
 pub mod Examples
+pub mod FewPlaces
 pub mod Filled
 pub mod FloorDivision
 pub mod Order

@@ -15,7 +15,7 @@ use Rattle.fixed_complex.specs.Numbers.{number_at}
 use Rattle.fixed_complex.specs.Samples.{sample_at}
 use Rattle.lane_kernels.specs.Kernels.{is_loud}
 use Rattle.lane_kernels.specs.Lanes.{AreOf16Bits, components_of, eight}
-use Rattle.lane_kernels.proofs.FourLanes.{first_four}
+use Rattle.integer_laws.proofs.FewPlaces.{at_four}
 use Rattle.lane_kernels.proofs.LaneSums.{to_z-cond}
 use Rattle.lane_kernels.proofs.Totals.{eight-at}
 use Rattle.lane_kernels.proofs.Wholes.{sample-chunk}
@@ -162,7 +162,7 @@ quiet_sample s i q = rw (i, q) refl
 
 pub four_quiet : (x : List ℤ) (f : ℕ → Sample) → x ≡ components_of f → AreQuiet x → (n : ℕ) → n < 4 → is_loud (f n) ≡ false
 four_quiet x f is h =
-    first_four (λ n. is_loud (f n) ≡ false)
+    at_four (λ n. is_loud (f n) ≡ false)
     (quiet_sample (f 0) (rw is at (h.each 0 (omega arith))) (rw is at (h.each 1 (omega arith)))) (quiet_sample (f 1) (rw is at (h.each 2 (omega arith))) (rw is at (h.each 3 (omega arith))))
     (quiet_sample (f 2) (rw is at (h.each 4 (omega arith))) (rw is at (h.each 5 (omega arith)))) (quiet_sample (f 3) (rw is at (h.each 6 (omega arith))) (rw is at (h.each 7 (omega arith))))
 

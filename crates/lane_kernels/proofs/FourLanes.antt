@@ -11,6 +11,7 @@ use mir.Syntax.{add, cast, signed, unsigned}
 use mir.Val.{Fits}
 use Rattle.lane_kernels.specs.Lanes.{four, total_below, total_of}
 use Rattle.fixed_complex.specs.Numbers.{NumbersWithin, number_at}
+use Rattle.integer_laws.proofs.FewPlaces.{at_four}
 use Rattle.lane_kernels.proofs.LaneSums.{kept, kept-is}
 use Rattle.lane_kernels.proofs.Totals.{total-one}
 
@@ -36,14 +37,6 @@ four-each P f h0 h1 h2 h3 none (suc zero) = h1
 four-each P f h0 h1 h2 h3 none (suc (suc zero)) = h2
 four-each P f h0 h1 h2 h3 none (suc (suc (suc zero))) = h3
 four-each P f h0 h1 h2 h3 none (suc (suc (suc (suc n)))) = none
-
--- what holds of each of the first four places
-pub first_four : (P : ℕ → Type 0) → P 0 → P 1 → P 2 → P 3 → (n : ℕ) → n < 4 → P n
-first_four P h0 h1 h2 h3 zero h = h0
-first_four P h0 h1 h2 h3 (suc zero) h = h1
-first_four P h0 h1 h2 h3 (suc (suc zero)) h = h2
-first_four P h0 h1 h2 h3 (suc (suc (suc zero))) h = h3
-first_four P h0 h1 h2 h3 (suc (suc (suc (suc n)))) h = absurd (omega arith)
 
 -- numbers of 32 bits added to sums
 abbrev pub widened : List ℕ → List ℕ
@@ -177,7 +170,7 @@ total-le f bound (suc n) h =
 pub chunk-added : (s new x : List ℤ) (f g : ℕ → ℤ) → new ≡ four (λ n. number_at s n +ℤ number_at x n) → x ≡ four f → ((n : ℕ) → n < 4 → f n ≡ g n) → new ≡ four (λ n. number_at s n +ℤ g n)
 chunk-added s new x f g is x_is same =
     is ∙ four-same (λ n. number_at s n +ℤ number_at x n) (λ n. number_at s n +ℤ g n)
-    (λ n below. ap (λ z. number_at s n +ℤ z) (first_four (λ m. number_at x m ≡ g m) (at 0 (omega arith) refl) (at 1 (omega arith) refl) (at 2 (omega arith) refl) (at 3 (omega arith) refl) n below))
+    (λ n below. ap (λ z. number_at s n +ℤ z) (at_four (λ m. number_at x m ≡ g m) (at 0 (omega arith) refl) (at 1 (omega arith) refl) (at 2 (omega arith) refl) (at 3 (omega arith) refl) n below))
   where
     at : (n : ℕ) → n < 4 → number_at (four f) n ≡ f n → number_at x n ≡ g n
     at n below here = ap (λ l. number_at l n) x_is ∙ (here ∙ same n below)

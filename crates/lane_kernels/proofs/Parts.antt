@@ -19,7 +19,8 @@ use Rattle.lane_kernels.specs.Lanes.{AreOf16Bits, AreProducts, AreSquares, IsPro
 use Rattle.lane_kernels.proofs.Bounds.{product-bounds, size-le, square-bounds}
 use Rattle.lane_kernels.proofs.LaneSums.{eight_of, power-le}
 use Rattle.lane_kernels.proofs.Totals.{eight-each}
-use Rattle.lane_kernels.proofs.FourLanes.{first_four, four-each, four-same}
+use Rattle.integer_laws.proofs.FewPlaces.{at_four}
+use Rattle.lane_kernels.proofs.FourLanes.{four-each, four-same}
 
 real_part : (a b : Sample) → a.i *ℤ b.i +ℤ a.q *ℤ b.q ≡ (product_of a b).re
 unfolding times
@@ -35,7 +36,7 @@ pub record IsOf16Bits (a : Sample) : Type 0 where
   pub q : FitsSigned w16 a.q
 
 pub samples_of : (x : List ℤ) (f : ℕ → Sample) → x ≡ components_of f → AreOf16Bits x → (n : ℕ) → n < 4 → IsOf16Bits (f n)
-samples_of x f is h = first_four (λ n. IsOf16Bits (f n))
+samples_of x f is h = at_four (λ n. IsOf16Bits (f n))
     (record { i = rw is at (h 0); q = rw is at (h 1) }) (record { i = rw is at (h 2); q = rw is at (h 3) })
     (record { i = rw is at (h 4); q = rw is at (h 5) }) (record { i = rw is at (h 6); q = rw is at (h 7) })
 

@@ -12,7 +12,7 @@ use Rattle.fixed_complex.specs.Numbers.{number_at}
 use Rattle.fixed_complex.specs.Samples.{sample_at}
 use Rattle.lane_kernels.proofs.HeldSums.{held_sums-at, length-held_sums}
 use Rattle.lane_kernels.proofs.Holding.{held-fits}
-use Rattle.lane_kernels.proofs.FourLanes.{first_four}
+use Rattle.integer_laws.proofs.FewPlaces.{at_four}
 use Rattle.lane_kernels.proofs.Totals.{eight-at}
 use mir.Syntax.{w16}
 
@@ -53,10 +53,10 @@ lane-held x y new m a b is below x_at y_at =
     rw here (to_z-of_z w16 (held (a +ℤ b)) (held-fits (a +ℤ b)))
 
 i-at : (f : ℕ → Sample) (n : ℕ) → n < 4 → number_at (components_of f) (2 * n) ≡ (f n).i
-i-at f = first_four (λ n. number_at (components_of f) (2 * n) ≡ (f n).i) refl refl refl refl
+i-at f = at_four (λ n. number_at (components_of f) (2 * n) ≡ (f n).i) refl refl refl refl
 
 q-at : (f : ℕ → Sample) (n : ℕ) → n < 4 → number_at (components_of f) (2 * n + 1) ≡ (f n).q
-q-at f = first_four (λ n. number_at (components_of f) (2 * n + 1) ≡ (f n).q) refl refl refl refl
+q-at f = at_four (λ n. number_at (components_of f) (2 * n + 1) ≡ (f n).q) refl refl refl refl
 
 pub sample-held : (x y new : List ℤ) (f g : ℕ → Sample) → x ≡ components_of f → y ≡ components_of g → new ≡ eight (λ n. held (number_at x n +ℤ number_at y n)) → (n : ℕ) → n < 4
     → (to_z w16 (of_z w16 (number_at new (2 * n))) ≡ held ((f n).i +ℤ (g n).i)) × (to_z w16 (of_z w16 (number_at new (2 * n + 1))) ≡ held ((f n).q +ℤ (g n).q))

@@ -13,7 +13,7 @@ use Rattle.fixed_complex.specs.Numbers.{number_at}
 use Rattle.lane_kernels.proofs.Bounds.{product-bounds}
 use Rattle.lane_kernels.proofs.LaneSums.{eight_of}
 use Rattle.lane_kernels.proofs.Totals.{eight-each}
-use Rattle.lane_kernels.proofs.FourLanes.{first_four}
+use Rattle.integer_laws.proofs.FewPlaces.{at_four}
 
 -- a number of 16 bits in a lane of 32
 abbrev wide_lane : ℤ → ℤ
@@ -266,10 +266,10 @@ times-zero z = omega (arith, ints)
 pub parts_of : (x p : List ℤ) → p ≡ eight (λ n. number_at x n *ℤ number_at one_and_zero n) → ArePartsOf x p
 parts_of x p is = record {
   long = ap length is;
-  first = first_four (λ n. number_at p (2 * n) ≡ number_at x (2 * n))
+  first = at_four (λ n. number_at p (2 * n) ≡ number_at x (2 * n))
       (ap (λ l. number_at l 0) is ∙ times-one (number_at x 0)) (ap (λ l. number_at l 2) is ∙ times-one (number_at x 2))
       (ap (λ l. number_at l 4) is ∙ times-one (number_at x 4)) (ap (λ l. number_at l 6) is ∙ times-one (number_at x 6));
-  second = first_four (λ n. number_at p (2 * n + 1) ≡ pos 0)
+  second = at_four (λ n. number_at p (2 * n + 1) ≡ pos 0)
       (ap (λ l. number_at l 1) is ∙ times-zero (number_at x 1)) (ap (λ l. number_at l 3) is ∙ times-zero (number_at x 3))
       (ap (λ l. number_at l 5) is ∙ times-zero (number_at x 5)) (ap (λ l. number_at l 7) is ∙ times-zero (number_at x 7));
 }

@@ -3,7 +3,7 @@ use Rattle.std.specs.Int.Bits.{bit_or}
 use Rattle.std.proofs.lemmas.Nat.{le_or_l, le_or_r}
 use Rattle.fixed_complex.specs.PairLists.{entry}
 use Rattle.fixed_complex.specs.Pairs.{IsWithin}
-use Rattle.butterfly64.proofs.EightLanes.{at_four}
+use Rattle.integer_laws.proofs.FewPlaces.{at_four}
 use Rattle.butterfly64.proofs.bits_of_four.Goals as goal
 
 pub returns : goal.returns

@@ -3,7 +3,7 @@ use Rattle.std.specs.Prelude.{ℤ, pos, neg_ℤ, ◌-ℤ◌}
 use Rattle.std.proofs.lemmas.Int.{ints}
 use Rattle.fixed_complex.specs.Numbers.{number_at}
 use Rattle.fixed_complex.proofs.Numbers.{within_eight}
-use Rattle.butterfly64.proofs.EightLanes.{at_eight}
+use Rattle.integer_laws.proofs.FewPlaces.{at_eight}
 use Rattle.fixed_complex.specs.Pairs.{scaled_product}
 use Rattle.fixed_complex.specs.Turns.{turn_at}
 use Rattle.butterfly64.specs.Rows.{row_lane}

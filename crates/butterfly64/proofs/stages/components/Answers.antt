@@ -3,7 +3,7 @@ use Rattle.std.specs.Prelude.{ℤ}
 use Rattle.std.proofs.lemmas.Int.{ints}
 use Rattle.fixed_complex.specs.Numbers.{number_at}
 use Rattle.fixed_complex.specs.PairLists.{entry}
-use Rattle.butterfly64.proofs.EightLanes.{at_four}
+use Rattle.integer_laws.proofs.FewPlaces.{at_four}
 use Rattle.butterfly64.proofs.stages.components.Goals as goal
 
 -- the first components of four pairs

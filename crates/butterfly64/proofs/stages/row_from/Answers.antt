@@ -1,7 +1,7 @@
 use Rattle.std.proofs.Common.{◌≡◌, ℕ, ◌+◌, ◌-◌, ◌*◌, ◌^◌, ◌∙◌, List, [], ◌∷◌, map, refl, ap, sym, subst, rules, arith}
 use Rattle.fixed_complex.specs.Numbers.{NumbersWithin, number_at}
 use Rattle.fixed_complex.specs.PairLists.{entry}
-use Rattle.butterfly64.proofs.EightLanes.{at_eight}
+use Rattle.integer_laws.proofs.FewPlaces.{at_eight}
 use Rattle.butterfly64.proofs.RowLanes.{second_words}
 use Rattle.butterfly64.proofs.stages.row_from.Goals as goal
 

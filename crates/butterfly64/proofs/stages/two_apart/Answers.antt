@@ -1,6 +1,6 @@
 use Rattle.std.proofs.Common.{◌≡◌, ℕ, ◌+◌, ◌-◌, ◌*◌, ◌/◌, ◌^◌, List, [], ◌∷◌, map, refl, rules, arith}
 use Rattle.fixed_complex.specs.Numbers.{number_at}
-use Rattle.butterfly64.proofs.EightLanes.{at_eight}
+use Rattle.integer_laws.proofs.FewPlaces.{at_eight}
 use Rattle.butterfly64.proofs.RowLanes.{row-re, row-im, shuffled}
 use Rattle.butterfly64.proofs.stages.two_apart.Goals as goal
 
