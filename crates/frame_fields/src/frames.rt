@@ -103,10 +103,12 @@ pub fn frame_samples(
     sent_frames();
     let kept = coded(alloc, rate, seed, psdu)?;
     let mut samples = frame_head(alloc, rate, psdu.len() as u16)?;
+    let mut points = [Cx { re: 0, im: 0 }; 48];
     let mut n = 0;
     for symbol in kept.chunks(rate.coded_bits()) {
         n += 1;
-        push_symbol(&mut samples, &points_of_code(rate, symbol), n)?;
+        put_code_points(rate, symbol, &mut points);
+        push_symbol(&mut samples, &points, n)?;
     }
     Ok(samples)
 }

@@ -37,12 +37,12 @@ overflow_add-n c =
     let kept : chunks_rest c.into_iter-symbol-iterator.result ≡ c.in_ok-kept.kept.items = search rules in
     omega (arith, count_within c.args.rate (length c.args.psdu.now) c.loop-symbol.n (chunks_rest c.into_iter-symbol-iterator.result) (omega arith) (ap length kept ∙ c.in_ok-kept.ensures.len) (next c).within)
 
-pub points_of_code-requires-clause-whole : goal.points_of_code-requires-clause-whole
-points_of_code-requires-clause-whole c = (next (goal.at.points_of_code-requires-clause-whole c).In-Some).long
+pub put_code_points-requires-clause-whole : goal.put_code_points-requires-clause-whole
+put_code_points-requires-clause-whole c = (next (goal.at.put_code_points-requires-clause-whole c).In-Some).long
 
-pub points_of_code-requires-clause-bits : goal.points_of_code-requires-clause-bits
-points_of_code-requires-clause-bits c =
-    let symbol = next (goal.at.points_of_code-requires-clause-bits c).In-Some in
+pub put_code_points-requires-clause-bits : goal.put_code_points-requires-clause-bits
+put_code_points-requires-clause-bits c =
+    let symbol = next (goal.at.put_code_points-requires-clause-bits c).In-Some in
     let kept : chunks_rest c.into_iter-symbol-iterator.result ≡ c.in_ok-kept.kept.items = search rules in
     let bits : AreBits (chunks_rest c.into_iter-symbol-iterator.result) = rw kept c.in_ok-kept.ensures.bits in
     rw symbol.is (All-take IsBit _ _ (All-drop IsBit _ _ bits))
@@ -51,12 +51,12 @@ pub loop-symbol-preserved : goal.loop-symbol-preserved
 loop-symbol-preserved c =
     let symbol = next (goal.at.loop-symbol-preserved c).In-Some in
     let kept : chunks_rest c.into_iter-symbol-iterator.result ≡ c.in_ok-kept.kept.items = search rules in
-    let points = points_are c.args.rate c.args.seed c.args.psdu.now c.in_ok-kept.kept.items c.in-Some.symbol.now c.points_of_code.result c.loop-symbol.n c.in_ok-kept.ensures.kept (symbol.is ∙ ap (λ bits. symbol_bits c.args.rate bits c.loop-symbol.n) kept) c.points_of_code.ensures.points in
+    let points = points_are c.args.rate c.args.seed c.args.psdu.now c.in_ok-kept.kept.items c.in-Some.symbol.now c.put_code_points.new.points c.loop-symbol.n c.in_ok-kept.ensures.kept (symbol.is ∙ ap (λ bits. symbol_bits c.args.rate bits c.loop-symbol.n) kept) c.put_code_points.ensures.points in
     record {
       size = c.in-Some.ensures.steps.0 ∙ c.loop-symbol.invariant.size;
       rest = symbol.rest_is;
       within = symbol.within;
-      samples = samples_are c.args.rate c.args.seed c.args.psdu.now c.loop-symbol.samples.items _ c.points_of_code.result (c.loop-symbol.n + 1) c.loop-symbol.invariant.samples points c.in_ok-push_symbol.ensures.appended;
+      samples = samples_are c.args.rate c.args.seed c.args.psdu.now c.loop-symbol.samples.items _ c.put_code_points.new.points (c.loop-symbol.n + 1) c.loop-symbol.invariant.samples points c.in_ok-push_symbol.ensures.appended;
       len = omega (arith, c.in_ok-push_symbol.ensures.len, c.loop-symbol.invariant.len);
     }
 
