@@ -34,6 +34,7 @@ pub struct Hearing {
     piecer: Piecer,
     receiver: Receiver,
     lines: Lines,
+    samples: [Sample; PIECE / 4],
 }
 
 impl Model for Hearing {
@@ -75,6 +76,7 @@ impl Hearing {
             piecer: Piecer::new(),
             receiver: Receiver::open(window, trellis, field, octets),
             lines,
+            samples: [SILENCE; PIECE / 4],
         })
     }
 
@@ -102,15 +104,14 @@ impl Hearing {
         ensures count { self.new.count ≡ self.old.count + length bytes.now }
         ensures counted { steps.new + self.old.receiver.spent ≤ steps.old + self.new.receiver.spent }
     {
-        let mut samples = [SILENCE; PIECE / 4];
         // fewer than four bytes are held
         let _held = self.piecer.rest();
-        let whole = self.piecer.feed_all(bytes, &mut samples);
+        let whole = self.piecer.feed_all(bytes, &mut self.samples);
         self.count += bytes.len();
         hear_samples(
             &mut self.receiver,
             &mut self.lines,
-            &samples[..whole],
+            &self.samples[..whole],
             steps,
         );
     }

@@ -77,18 +77,21 @@ fn hear_source<S: Source>(
     ensures bounded { IfSome (S.left source.old)
         (λ bytes. hearing.new.receiver.spent ≤ 32 * (length bytes / 4) + 512) }
 {
+    let mut piece = [0; PIECE];
     loop {
-        let count = hear_piece(hearing, source, steps)?;
+        let count = hear_piece(hearing, source, &mut piece, steps)?;
         if count == 0 {
             return Ok(());
         }
     }
 }
 
-// Hears one more piece of a source, and answers how long it is. It is empty only at the end of input.
+// Hears one more piece of a source, which is read into `piece`, and answers how long it is. It is empty only at the end of
+// input.
 fn hear_piece<S: Source>(
     hearing: &mut Hearing,
     source: &mut S,
+    piece: &mut [u8; PIECE],
     steps: &mut Steps,
 ) -> Result<usize, Refusal>
     ensures heard { (before : Option (List ℕ)) → HeardFrom before (S.left source.old) hearing.old
@@ -111,7 +114,6 @@ fn hear_piece<S: Source>(
     ensures paced { steps.new + hearing.old.receiver.spent
         ≤ steps.old + hearing.new.receiver.spent }
 {
-    let mut piece = [0; PIECE];
     let room = MOST_INPUT - hearing.count();
     let most = PIECE.min(room + 1);
     let Ok(count) = source.read(&mut piece[..most]) else {
