@@ -159,22 +159,10 @@ fn are_small(x: &[Cx; 64]) -> bool
     ensures { result ≡ true → PairsOfSize (2 ^ 24) x.now }
 {
     let mut bits = 0;
-    for group in 0..16 {
-        bits |= bits_of_four(x, 4 * group);
+    for n in 0..64 {
+        bits |= bits_of(x[n]);
     }
     bits < 1 << 24
-}
-
-// The bits of the four pairs from a place on, each component with 2^23 added.
-#[inline(always)]
-fn bits_of_four(x: &[Cx; 64], place: usize) -> u64
-    requires place { place + 4 ≤ 64 }
-    requires within { PairsWithin (2 ^ 30) x.now }
-    ensures { result < 2 ^ 24 → (k : ℕ) → k < 4 → IsWithin (2 ^ 23) (entry x.now (place + k)) }
-{
-    let first = bits_of(x[place]) | bits_of(x[place + 1]);
-    let last = bits_of(x[place + 2]) | bits_of(x[place + 3]);
-    first | last
 }
 
 // The bits of both components and 2^23, which are below 2^24 where both are from -2^23 to 2^23 - 1.

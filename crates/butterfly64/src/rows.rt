@@ -154,7 +154,7 @@ pub(crate) fn turned_row(turns: &Row, x: &Row) -> Row
 
 // Eight words, wider.
 #[inline(always)]
-fn widened(x: [i32; 8]) -> [i64; 8]
+pub(crate) fn widened(x: [i32; 8]) -> [i64; 8]
     requires { NumbersWithin (2 ^ 31 - 1) x }
     ensures { result ≡ x }
 {

@@ -9,7 +9,7 @@ ghost use Rattle.butterfly64.specs.Rows.{IsJoined, IsParted, RowOfSize, RowsOfSi
 use crate::row_turns::{PART_TURNS, ROW_TURNS};
 use crate::rows::{
     Row, difference_row, joined_row, narrowed, quartered_difference_row, quartered_row, sum_row,
-    turned_back_row, turned_row,
+    turned_back_row, turned_row, widened,
 };
 use fixed_complex::Cx;
 use std::simd::prelude::*;
@@ -221,24 +221,29 @@ fn components(x: &[Cx; 64], place: usize) -> [i64; 8]
 
 // The pairs of eight rows.
 pub(crate) fn row_pairs(x: &[Row; 8]) -> [Cx; 64]
+    requires { RowsOfSize (65 * 2 ^ 24 + 256) x.now }
     ensures { (n : ℕ) → n < 64 → entry result n ≡ place_in x.now n }
 {
     let mut pairs = [Cx { re: 0, im: 0 }; 64];
     for r in 0..8 {
-        for l in 0..8 {
-            pairs[8 * r + l] = pair_in(&x[r], l);
-        }
+        put_row(&mut pairs, r, &x[r]);
     }
     pairs
 }
 
-// The pair in a lane.
-fn pair_in(x: &Row, l: usize) -> Cx
-    requires { l < 8 }
-    ensures { result ≡ row_lane x.now l }
+// Puts the pairs of a row to their eight places.
+#[inline(always)]
+fn put_row(pairs: &mut [Cx; 64], r: usize, row: &Row)
+    requires place { r < 8 }
+    requires sizes { RowOfSize (65 * 2 ^ 24 + 256) row.now }
+    ensures put { (l : ℕ) → l < 8 → entry pairs.new (8 * r + l) ≡ row_lane row.now l }
+    ensures before { (n : ℕ) → n < 8 * r → entry pairs.new n ≡ entry pairs.old n }
 {
-    Cx {
-        re: i64::from(x.re[l]),
-        im: i64::from(x.im[l]),
+    let (re, im) = (widened(row.re), widened(row.im));
+    for l in 0..8 {
+        pairs[8 * r + l] = Cx {
+            re: re[l],
+            im: im[l],
+        };
     }
 }

@@ -12,6 +12,9 @@ up_rows-requires c = record {
   each = λ n lt. rw (c.rows_of-rows.ensures n lt) (everywhere_of_size (2 ^ 24) c.args.x.now c.requires n);
 }
 
+pub row_pairs-requires : goal.row_pairs-requires
+row_pairs-requires c = c.up_rows.ensures.sizes
+
 pub returns-clause-sums : goal.returns-clause-sums
 returns-clause-sums c =
     let x = entry c.args.x.now in

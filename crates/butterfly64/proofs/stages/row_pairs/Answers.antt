@@ -1,20 +1,19 @@
-use Rattle.std.proofs.Common.{◌≡◌, ◌≢◌, ◌+◌, ◌*◌, ◌<◌, length, length-set, get_or-set_other, get_or-set_same, inl, inr, ◌∙◌, arith}
-use Rattle.std.proofs.lemmas.Bool.{cases_lt}
-use Rattle.butterfly64.proofs.RowPlaces.{place_is}
+use Rattle.std.proofs.Common.{◌^◌, ◌+◌, ◌*◌, ◌∙◌}
+use Rattle.fixed_complex.specs.PairLists.{entry}
+use Rattle.butterfly64.specs.Rows.{place_in}
+use Rattle.butterfly64.proofs.RowPlaces.{lane_is, one_row_more, row_of_size}
 use Rattle.butterfly64.proofs.stages.row_pairs.Goals as goal
 
-pub loop-l-preserved : goal.loop-l-preserved
-loop-l-preserved c =
-    let n = 8 * c.loop-r.r + c.loop-l.l in
+pub put_row-requires-clause-sizes : goal.put_row-requires-clause-sizes
+put_row-requires-clause-sizes c = row_of_size (65 * 2 ^ 24 + 256) c.args.x.now c.loop-r.r c.loop-r-test.true c.requires
+
+pub loop-r-preserved : goal.loop-r-preserved
+loop-r-preserved c =
+    let x = c.args.x.now in
+    let r = c.loop-r.r in
     record {
-      long = rw length-set c.loop-l.invariant.long;
-      done = λ k lt. elim (cases_lt k (8 * c.loop-r.r + c.loop-l.l)) [
-        | inl here ↦
-            let other : k ≢ 8 * c.loop-r.r + c.loop-l.l = omega arith in
-            get_or-set_other c.loop-l.pairs n k c.pair_in.result _ other ∙ c.loop-l.invariant.done k here
-        | inr past ↦
-            let at : k ≡ 8 * c.loop-r.r + c.loop-l.l = omega arith in
-            let room : 8 * c.loop-r.r + c.loop-l.l < length c.loop-l.pairs = omega (arith, c.loop-l.invariant.long) in
-            rw at (get_or-set_same c.loop-l.pairs n c.pair_in.result _ room ∙ (c.pair_in.ensures ∙ place_is c.args.x.now n c.loop-r.r c.loop-l.l (omega arith) (omega arith)))
-      ];
+      long = c.put_row.array_long;
+      done =
+          one_row_more (place_in x) (entry c.loop-r.pairs) (entry c.put_row.new.pairs) r c.loop-r.invariant.done c.put_row.ensures.before
+          (λ l lt. c.put_row.ensures.put l lt ∙ lane_is x r l lt);
     }
