@@ -1,5 +1,5 @@
 //! The marks of decisions: those of kept places, in order, and absent ones.
-ghost use Rattle.std.specs.Prelude.{◌≡◌, ◌==◌, ℕ, ◌+◌, ◌-◌, ◌*◌, ◌%◌, ◌<◌, ◌≤◌, ◌^◌, List, [], ◌∷◌, ◌++◌, true, length, slice_index, if◌then◌else◌};
+ghost use Rattle.std.specs.Prelude.{◌≡◌, ◌==◌, ℕ, ◌+◌, ◌-◌, ◌*◌, ◌%◌, ◌<◌, ◌≤◌, ◌^◌, List, ◌++◌, true, length, slice_index, if◌then◌else◌};
 ghost use Rattle.modem_ports.specs.Counts.{raised_by};
 ghost use Rattle.puncture_map.specs.Kept.{kept_count, period_of};
 ghost use Rattle.rate_table.specs.Symbols.{IsLength, bits_through_tail, symbol_count};
@@ -116,54 +116,6 @@ impl Trellis {
         next
     }
 
-    // Appends two pairs of marks.
-    #[inline(always)]
-    fn two_steps(&mut self, first: (Mark, Mark), second: (Mark, Mark), steps: &mut Steps)
-        requires room { length self.old.rows + 2 ≤ self.old.room }
-        ensures appended { (marks : List (Mark × Mark)) → StandsFor self.old marks
-            → StandsFor self.new (marks ++ first ∷ second ∷ []) }
-        ensures held { length self.new.rows ≡ length self.old.rows + 2 }
-        ensures entries { AreEntries self.new.entries }
-        ensures room { self.new.room ≡ self.old.room }
-        ensures counted { steps.new ≡ raised_by 2 steps.old }
-    {
-        steps.tick();
-        steps.tick();
-        self.memory.two_steps(
-            branch_costs(first.0, first.1),
-            branch_costs(second.0, second.1),
-            MOST_COST,
-        );
-    }
-
-    // Appends three pairs of marks.
-    #[inline(always)]
-    fn three_steps(
-        &mut self,
-        first: (Mark, Mark),
-        second: (Mark, Mark),
-        third: (Mark, Mark),
-        steps: &mut Steps,
-    )
-        requires room { length self.old.rows + 3 ≤ self.old.room }
-        ensures appended { (marks : List (Mark × Mark)) → StandsFor self.old marks
-            → StandsFor self.new (marks ++ first ∷ second ∷ third ∷ []) }
-        ensures held { length self.new.rows ≡ length self.old.rows + 3 }
-        ensures entries { AreEntries self.new.entries }
-        ensures room { self.new.room ≡ self.old.room }
-        ensures counted { steps.new ≡ raised_by 3 steps.old }
-    {
-        steps.tick();
-        steps.tick();
-        steps.tick();
-        self.memory.three_steps(
-            branch_costs(first.0, first.1),
-            branch_costs(second.0, second.1),
-            branch_costs(third.0, third.1),
-            MOST_COST,
-        );
-    }
-
     /// Appends the marks of one symbol of a DATA field of so many octets, 1 to 4095, whose symbols before it are held: those
     /// of the symbol's N_CBPS decisions, in code order, as far as the end of the tail (18.3.5.4 and 18.3.5.6). There is
     /// room for the whole field. The count of steps rises by one for each step, so by at most 216. Takes no memory.
@@ -204,12 +156,7 @@ impl Trellis {
 // The marks of a step, by how many steps of its period stand before it, of decisions from a place on, and the place behind
 // them.
 #[inline(always)]
-fn step_marks(
-    rate: CodeRate,
-    phase: usize,
-    decisions: &[u8],
-    next: usize,
-) -> ((Mark, Mark), usize)
+fn step_marks(rate: CodeRate, phase: usize, decisions: &[u8], next: usize) -> ((Mark, Mark), usize)
     requires phase { phase < period_of rate }
     requires at { (step : ℕ) × ((step % period_of rate ≡ phase) × ((next ≡ kept_count rate step)
         × (kept_count rate (step + 1) ≤ length decisions.now))) }

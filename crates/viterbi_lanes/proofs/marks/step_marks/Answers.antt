@@ -1,10 +1,9 @@
-use Rattle.std.proofs.Common.{◌+◌, ◌*◌, ◌≡◌, length, arith, sym, ◌++◌, ◌∷◌, [], append_assoc}
+use Rattle.std.proofs.Common.{◌+◌, ◌*◌, ◌≡◌, length, arith}
 use Rattle.puncture_map.specs.Carried.{carried_pair}
 use Rattle.puncture_map.proofs.Carried.{carried_is}
 use Rattle.puncture_map.proofs.Periods.{byte_le, rank-counted, rank-within}
 use Rattle.viterbi_lanes.specs.declared.Mark.TheVariants.{Absent}
-use Rattle.viterbi_lanes.specs.Decisions.{mark_at, mark_of, marks_of}
-use Rattle.viterbi_lanes.proofs.Decisions.{marks_of_more}
+use Rattle.viterbi_lanes.specs.Decisions.{mark_at, mark_of}
 use Rattle.viterbi_lanes.proofs.marks.step_marks.Goals as goal
 
 pub mark-a-requires : goal.mark-a-requires
