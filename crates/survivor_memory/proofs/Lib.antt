@@ -1,7 +1,9 @@
+mod Blocks
 mod Branches
 mod ByLanes
 mod Closing
 pub mod Existing
+mod Halving
 mod Holding
 mod Leading
 mod Merge

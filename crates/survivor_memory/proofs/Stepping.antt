@@ -6,7 +6,7 @@ use Rattle.std.proofs.lemmas.List.{length_push, replicate_more}
 use Rattle.std.proofs.lemmas.List.Elements.{All-push}
 use Rattle.survivor_memory.specs.declared.PairCosts.{PairCosts}
 use Rattle.survivor_memory.specs.Costs.{most_cost}
-use Rattle.survivor_memory.specs.Survivors.{MemoryView, Holds, LeadsTo, followed}
+use Rattle.survivor_memory.specs.Survivors.{MemoryView, HasEntryAtMost, Holds, LeadsTo, followed}
 use Rattle.survivor_memory.proofs.Holding.{entry_le, followed_push}
 use Rattle.survivor_memory.proofs.Leading.{branch_cost, branch_cost_le, leads-nil, leads_push, leads_lt, cut, came_from, goes_to_low, goes_to_high}
 use Rattle.survivor_memory.proofs.Merge.{IsSurvivor, low_goes_on, high_goes_on}
@@ -15,18 +15,17 @@ use Rattle.survivor_memory.proofs.Reached.{IsUnreached, is_reached}
 -- what a step does to a memory: the sums through the lower and the higher predecessor of each state, held at 255; a back bit
 
 pub record Stepped (most : ℕ) (pair : PairCosts) (old new : MemoryView) : Type 0 where
-  pub low : List ℕ
-  pub high : List ℕ
+  pub low : ℕ → ℕ
+  pub high : ℕ → ℕ
   pub row : ℕ
   pub least : ℕ
-  pub low_is : (s : ℕ) → s < 64 → get_or low s 0 ≡ min 255 (get_or old.entries (s / 2) 0 + branch_cost pair (s / 2) (s % 2))
-  pub high_is : (s : ℕ) → s < 64 → get_or high s 0 ≡ min 255 (get_or old.entries (s / 2 + 32) 0 + branch_cost pair (s / 2 + 32) (s % 2))
-  pub low_wins : (s : ℕ) → s < 64 → get_or low s 0 ≤ get_or high s 0 → bit_at row s ≡ 0
-  pub high_wins : (s : ℕ) → s < 64 → get_or high s 0 < get_or low s 0 → bit_at row s ≡ 1
-  pub least_le : (s : ℕ) → s < 64 → least ≤ min (get_or low s 0) (get_or high s 0)
-  pub low_at : (min (get_or low 0 0) (get_or high 0 0) ≤ 254 - 7 * most) ⊎ ((s : ℕ) × (s < 64) × (min (get_or low s 0) (get_or high s 0) ≡ least))
-  pub lowered : (s : ℕ) → s < 64 → min (get_or low s 0) (get_or high s 0) < 255 → get_or new.entries s 0 ≡ min (get_or low s 0) (get_or high s 0) - least
-  pub kept : (s : ℕ) → s < 64 → min (get_or low s 0) (get_or high s 0) ≡ 255 → get_or new.entries s 0 ≡ 255
+  pub low_is : (s : ℕ) → s < 64 → low s ≡ min 255 (get_or old.entries (s / 2) 0 + branch_cost pair (s / 2) (s % 2))
+  pub high_is : (s : ℕ) → s < 64 → high s ≡ min 255 (get_or old.entries (s / 2 + 32) 0 + branch_cost pair (s / 2 + 32) (s % 2))
+  pub low_wins : (s : ℕ) → s < 64 → low s ≤ high s → bit_at row s ≡ 0
+  pub high_wins : (s : ℕ) → s < 64 → high s < low s → bit_at row s ≡ 1
+  pub least_le : (s : ℕ) → s < 64 → least ≤ min (low s) (high s)
+  pub lowered : (s : ℕ) → s < 64 → min (low s) (high s) < 255 → get_or new.entries s 0 ≡ min (low s) (high s) - least
+  pub kept : (s : ℕ) → s < 64 → min (low s) (high s) ≡ 255 → get_or new.entries s 0 ≡ 255
   pub rows : new.rows ≡ old.rows ++ row ∷ []
   pub base : new.base ≡ old.base + least
 
@@ -41,14 +40,14 @@ module _ (most : ℕ) (pair : PairCosts) (old new : MemoryView) (pairs : List Pa
     (step : Stepped most pair old new) (few : 7 * most < 255) (light : most_cost pair ≤ most) (holds : Holds most old pairs)
   where
     -- the sum through a predecessor that a list leads to is exact
-    low_exact : (s : ℕ) (v : List ℕ) → s < 64 → LeadsTo (length pairs) (s / 2) v → (get_or step.low s 0 ≡ get_or old.entries (s / 2) 0 + branch_cost pair (s / 2) (s % 2)) × (get_or step.low s 0 ≤ 254)
+    low_exact : (s : ℕ) (v : List ℕ) → s < 64 → LeadsTo (length pairs) (s / 2) v → (step.low s ≡ get_or old.entries (s / 2) 0 + branch_cost pair (s / 2) (s % 2)) × (step.low s ≤ 254)
     low_exact s v h leads =
         let entry = entry_le most old pairs few holds (s / 2) v (omega arith) leads in
         let branch = branch_cost_le pair (s / 2) (s % 2) in
         let sum = step.low_is s h in
         (omega arith, omega arith)
 
-    high_exact : (s : ℕ) (v : List ℕ) → s < 64 → LeadsTo (length pairs) (s / 2 + 32) v → (get_or step.high s 0 ≡ get_or old.entries (s / 2 + 32) 0 + branch_cost pair (s / 2 + 32) (s % 2)) × (get_or step.high s 0 ≤ 254)
+    high_exact : (s : ℕ) (v : List ℕ) → s < 64 → LeadsTo (length pairs) (s / 2 + 32) v → (step.high s ≡ get_or old.entries (s / 2 + 32) 0 + branch_cost pair (s / 2 + 32) (s % 2)) × (step.high s ≤ 254)
     high_exact s v h leads =
         let entry = entry_le most old pairs few holds (s / 2 + 32) v (omega arith) leads in
         let branch = branch_cost_le pair (s / 2 + 32) (s % 2) in
@@ -56,25 +55,25 @@ module _ (most : ℕ) (pair : PairCosts) (old new : MemoryView) (pairs : List Pa
         (omega arith, omega arith)
 
     -- and through any other it is 255
-    low_full : (s : ℕ) → s < 64 → IsUnreached (length pairs) (s / 2) → get_or step.low s 0 ≡ 255
+    low_full : (s : ℕ) → s < 64 → IsUnreached (length pairs) (s / 2) → step.low s ≡ 255
     low_full s h none = omega (arith, step.low_is s h, holds.no_list (s / 2) (omega arith) none)
 
-    high_full : (s : ℕ) → s < 64 → IsUnreached (length pairs) (s / 2 + 32) → get_or step.high s 0 ≡ 255
+    high_full : (s : ℕ) → s < 64 → IsUnreached (length pairs) (s / 2 + 32) → step.high s ≡ 255
     high_full s h none = omega (arith, step.high_is s h, holds.no_list (s / 2 + 32) (omega arith) none)
 
     -- the lists that the new back bits give
-    followed_low : (s : ℕ) → s < 64 → get_or step.low s 0 ≤ get_or step.high s 0 → followed new.rows (length pairs + 1) s ≡ followed old.rows (length pairs) (s / 2) ++ s % 2 ∷ []
+    followed_low : (s : ℕ) → s < 64 → step.low s ≤ step.high s → followed new.rows (length pairs + 1) s ≡ followed old.rows (length pairs) (s / 2) ++ s % 2 ∷ []
     followed_low s h wins =
         let before : s / 2 + 32 * bit_at step.row s ≡ s / 2 = rw (step.low_wins s h wins) (omega arith) in
         rw step.rows (rw before at (followed_push old.rows step.row (length pairs) s holds.held))
 
-    followed_high : (s : ℕ) → s < 64 → get_or step.high s 0 < get_or step.low s 0 → followed new.rows (length pairs + 1) s ≡ followed old.rows (length pairs) (s / 2 + 32) ++ s % 2 ∷ []
+    followed_high : (s : ℕ) → s < 64 → step.high s < step.low s → followed new.rows (length pairs + 1) s ≡ followed old.rows (length pairs) (s / 2 + 32) ++ s % 2 ∷ []
     followed_high s h wins =
         let before : s / 2 + 32 * bit_at step.row s ≡ s / 2 + 32 = rw (step.high_wins s h wins) (omega arith) in
         rw step.rows (rw before at (followed_push old.rows step.row (length pairs) s holds.held))
 
     -- the survivor of a state where the lower sum is the lesser, or both are the same
-    low_survives : (s : ℕ) (v : List ℕ) → s < 64 → LeadsTo (length pairs) (s / 2) v → get_or step.low s 0 ≤ get_or step.high s 0
+    low_survives : (s : ℕ) (v : List ℕ) → s < 64 → LeadsTo (length pairs) (s / 2) v → step.low s ≤ step.high s
         → IsSurvivor (length pairs + 1) s (pairs ++ pair ∷ []) (followed new.rows (length pairs + 1) s) (get_or new.entries s 0 + new.base)
     low_survives s v h leads wins =
         let exact = low_exact s v h leads in
@@ -85,7 +84,7 @@ module _ (most : ℕ) (pair : PairCosts) (old new : MemoryView) (pairs : List Pa
         (λ w other. omega (arith, (holds.survivors (s / 2 + 32) w other).none_less w other, high_exact s w h other, exact, wins)))
 
     -- and where the higher is less
-    high_survives : (s : ℕ) (v : List ℕ) → s < 64 → LeadsTo (length pairs) (s / 2 + 32) v → get_or step.high s 0 < get_or step.low s 0
+    high_survives : (s : ℕ) (v : List ℕ) → s < 64 → LeadsTo (length pairs) (s / 2 + 32) v → step.high s < step.low s
         → IsSurvivor (length pairs + 1) s (pairs ++ pair ∷ []) (followed new.rows (length pairs + 1) s) (get_or new.entries s 0 + new.base)
     high_survives s v h leads wins =
         let exact = high_exact s v h leads in
@@ -102,7 +101,7 @@ module _ (most : ℕ) (pair : PairCosts) (old new : MemoryView) (pairs : List Pa
         let h = leads_lt leads in
         let c = cut (length pairs) s w leads in
         let from = came_from c.before c.input s (leads_lt c.leads) c.bit c.after in
-        elim (cases_lt (get_or step.high s 0) (get_or step.low s 0)) [
+        elim (cases_lt (step.high s) (step.low s)) [
           | inl higher ↦ elim (is_reached (length pairs) (s / 2 + 32) (omega arith)) [
             | inl found ↦ high_survives s found.list h found.leads higher
             | inr none ↦ elim from.1 [
@@ -126,24 +125,27 @@ module _ (most : ℕ) (pair : PairCosts) (old new : MemoryView) (pairs : List Pa
         let high : IsUnreached (length pairs) (s / 2 + 32) = λ v leads. none (v ++ s % 2 ∷ []) (rw (goes_to_high s h) at (leads_push (length pairs) (s / 2 + 32) (s % 2) v leads (omega arith))) in
         step.kept s h (omega (arith, low_full s h low, high_full s h high))
 
-    -- some entry is low
-    some_low : (s : ℕ) × (s < 64) × (get_or new.entries s 0 ≤ 254 - 7 * most)
-    some_low =
+    -- some entry is low, where the first was, or the least is taken off
+    some_low : (min (step.low 0) (step.high 0) ≤ 254 - 7 * most) ⊎ ((s : ℕ) × (s < 64) × (min (step.low s) (step.high s) ≡ step.least)) → HasEntryAtMost (254 - 7 * most) new.entries
+    some_low low_at =
         let start = low_exact 0 (replicate (length pairs) 0) (omega arith) (leads_by_zeros (length pairs)) in
-        elim step.low_at [
+        elim low_at [
           | inl first ↦ (0, omega arith, omega (arith, step.lowered 0 (omega arith) (omega arith), first))
           | inr found ↦
               let (s, h, least) = found in
               (s, h, omega (arith, step.lowered s h (omega (arith, least, step.least_le 0 (omega arith), start)), least))
         ]
 
-    pub holds_push : Holds most new (pairs ++ pair ∷ [])
-    holds_push =
+    pub holds_push : HasEntryAtMost (254 - 7 * most) new.entries → Holds most new (pairs ++ pair ∷ [])
+    holds_push low =
         let more : length (pairs ++ pair ∷ []) ≡ length pairs + 1 = length_push pairs pair in
         record {
           held = rw (step.rows, more) (length_push old.rows step.row ∙ ap (λ n. n + 1) holds.held);
           light = All-push (λ pair. most_cost pair ≤ most) pairs pair holds.light light;
           survivors = rw more survives;
           no_list = rw more stays_full;
-          low = some_low;
+          low = low;
         }
+
+    pub holds_push_lowered : (min (step.low 0) (step.high 0) ≤ 254 - 7 * most) ⊎ ((s : ℕ) × (s < 64) × (min (step.low s) (step.high s) ≡ step.least)) → Holds most new (pairs ++ pair ∷ [])
+    holds_push_lowered low_at = holds_push (some_low low_at)

@@ -1,9 +1,9 @@
 //! A step over the 64 states, as lanes. State s has the predecessors s / 2, the lower, and s / 2 + 32, the higher.
-ghost use Rattle.std.specs.Prelude.{◌≡◌, ◌≢◌, ◌==◌, ℕ, ◌+◌, ◌-◌, ◌*◌, ◌/◌, ◌%◌, ◌<◌, ◌≤◌, ◌⊎◌, min, slice_index, if◌then◌else◌};
+ghost use Rattle.std.specs.Prelude.{◌≡◌, ◌≢◌, ◌==◌, ℕ, ◌+◌, ◌-◌, ◌*◌, ◌/◌, ◌%◌, ◌<◌, ◌≤◌, ◌⊎◌, min, slice_index, if◌then◌else◌, IfNone, IfSome};
 ghost use Rattle.std.specs.Int.{bit_at};
 ghost use Rattle.conv_code.specs.States.{branch_a, branch_b};
 ghost use Rattle.survivor_memory.specs.Costs.{price, IsLight};
-ghost use Rattle.survivor_memory.specs.Survivors.{AreEntries};
+ghost use Rattle.survivor_memory.specs.Survivors.{AreEntries, AreLowered, AreNextEntries};
 
 use crate::PairCosts;
 use std::simd::prelude::*;
@@ -102,47 +102,86 @@ pub fn lesser(first: u8x64, second: u8x64) -> u8x64
     first.simd_min(second)
 }
 
-/// Takes the least of the entries off all of them but 255, where the first is above a limit. Answers how much that is, so
-/// 0 where the first is at most the limit.
+/// The entries one pair on, by the costs of its branches from each state's lower and higher predecessor; and a number with
+/// a bit for each state, which is 1 where the sum through the higher one is less.
 #[inline(always)]
-pub fn lower_above(entries: &mut [u8; 64], limit: u8) -> u8
-    ensures within { (s : ℕ) → s < 64 → result ≤ slice_index entries.old s }
-    ensures lowered { (s : ℕ) → s < 64 → slice_index entries.old s < 255
-        → slice_index entries.new s ≡ slice_index entries.old s - result }
-    ensures kept { (s : ℕ) → s < 64 → slice_index entries.old s ≡ 255
-        → slice_index entries.new s ≡ 255 }
-    ensures entries { AreEntries entries.new }
-    ensures none { slice_index entries.old 0 ≤ limit → result ≡ 0 }
-    ensures low { (slice_index entries.old 0 ≤ limit)
-        ⊎ ((s : ℕ) × (s < 64) × (slice_index entries.old s ≡ result)) }
+pub fn next_entries(entries: u8x64, from_lower: u8x64, from_higher: u8x64) -> (u8x64, u64)
+    ensures { AreNextEntries entries from_lower from_higher result.0 result.1 }
 {
-    if entries[0] <= limit {
-        return 0;
-    }
-    let least = least_of(entries);
-    *entries = lowered(u8x64::from_array(*entries), least).to_array();
-    least
+    let (lower, higher) = predecessors(entries);
+    let lower = sums(lower, from_lower);
+    let higher = sums(higher, from_higher);
+    let best = lesser(lower, higher);
+    (best, differing(lower, best))
 }
 
-// The least of the entries.
-#[inline(never)]
-fn least_of(entries: &[u8; 64]) -> u8
-    ensures least { (s : ℕ) → s < 64 → result ≤ slice_index entries.now s }
-    ensures found { (s : ℕ) × (s < 64) × (slice_index entries.now s ≡ result) }
+/// Takes the least of the entries off all of them but 255, where the first is above a limit. Answers the entries, and how
+/// much that is, so 0 where the first is at most the limit.
+#[inline(always)]
+pub fn lower_above(entries: u8x64, limit: u8) -> (u8x64, u8)
+    ensures lowered { AreLowered entries result.1 result.0 }
+    ensures entries { AreEntries result.0 }
+    ensures none { slice_index entries 0 ≤ limit → result.1 ≡ 0 }
+    ensures low { (slice_index entries 0 ≤ limit)
+        ⊎ ((s : ℕ) × (s < 64) × (slice_index entries s ≡ result.1)) }
 {
-    let mut least = entries[0];
-    for entry in entries {
-        least = least.min(*entry);
+    match least_above(entries, limit) {
+        None => (entries, 0),
+        Some(least) => (lowered(entries, least), least),
     }
-    least
+}
+
+/// The same, of entries that it puts into `out`.
+#[inline(always)]
+pub fn put_lowered(entries: u8x64, limit: u8, out: &mut [u8; 64]) -> u8
+    ensures lowered { AreLowered entries result out.new }
+    ensures entries { AreEntries out.new }
+    ensures none { slice_index entries 0 ≤ limit → result ≡ 0 }
+    ensures low { (slice_index entries 0 ≤ limit)
+        ⊎ ((s : ℕ) × (s < 64) × (slice_index entries s ≡ result)) }
+{
+    *out = entries.to_array();
+    match least_above(entries, limit) {
+        None => 0,
+        Some(least) => {
+            *out = lowered(entries, least).to_array();
+            least
+        }
+    }
+}
+
+// The least of the entries, where the first is above a limit.
+#[inline(always)]
+fn least_above(entries: u8x64, limit: u8) -> Option<u8>
+    ensures least { IfSome result (λ least. (s : ℕ) → s < 64 → least ≤ slice_index entries s) }
+    ensures found { IfSome result (λ least. (s : ℕ) × (s < 64) × (slice_index entries s ≡ least)) }
+    ensures above { IfSome result (λ least. limit < slice_index entries 0) }
+    ensures none { IfNone result (slice_index entries 0 ≤ limit) }
+{
+    if entries.to_array()[0] <= limit {
+        None
+    } else {
+        Some(least_of(entries))
+    }
+}
+
+// The least of the entries, by halves.
+fn least_of(entries: u8x64) -> u8
+    ensures least { (s : ℕ) → s < 64 → result ≤ slice_index entries s }
+    ensures found { (s : ℕ) × (s < 64) × (slice_index entries s ≡ result) }
+{
+    let of_two = lesser(entries, entries.rotate_elements_left::<32>());
+    let of_four = lesser(of_two, of_two.rotate_elements_left::<16>());
+    let of_8 = lesser(of_four, of_four.rotate_elements_left::<8>());
+    let of_16 = lesser(of_8, of_8.rotate_elements_left::<4>());
+    let of_32 = lesser(of_16, of_16.rotate_elements_left::<2>());
+    lesser(of_32, of_32.rotate_elements_left::<1>()).to_array()[0]
 }
 
 // Lane by lane, a number less, but for 255, which stays.
 fn lowered(entries: u8x64, by: u8) -> u8x64
     requires { (s : ℕ) → s < 64 → by ≤ slice_index entries s }
-    ensures lowered { (s : ℕ) → s < 64 → slice_index entries s < 255
-        → slice_index result s ≡ slice_index entries s - by }
-    ensures kept { (s : ℕ) → s < 64 → slice_index entries s ≡ 255 → slice_index result s ≡ 255 }
+    ensures { AreLowered entries by result }
 {
     let is_full = entries.simd_eq(u8x64::splat(255));
     is_full.select(entries, entries - u8x64::splat(by))

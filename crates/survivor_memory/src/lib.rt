@@ -168,14 +168,90 @@ impl SurvivorMemory {
         ensures entries { AreEntries self.new.entries }
         ensures room { self.new.room ≡ self.old.room }
     {
-        let (lower, higher) = lanes::predecessors(u8x64::from_array(self.entries));
-        let lower = lanes::sums(lower, from_lower);
-        let higher = lanes::sums(higher, from_higher);
-        let best = lanes::lesser(lower, higher);
-        self.entries = best.to_array();
-        self.rows[self.held] = lanes::differing(lower, best);
+        let entries = u8x64::from_array(self.entries);
+        let (best, row) = lanes::next_entries(entries, from_lower, from_higher);
+        let common = lanes::put_lowered(best, 254 - 7 * most, &mut self.entries);
+        self.rows[self.held] = row;
         self.held += 1;
-        let common = lanes::lower_above(&mut self.entries, 254 - 7 * most);
+        self.base += u32::from(common);
+    }
+
+    /// Appends two pairs, each by what its branches cost. No pair held costs more than `most`, of which nine are less than
+    /// 255. There is room for them. Takes no memory.
+    #[inline(always)]
+    pub fn two_steps(&mut self, first: &BranchCosts, second: &BranchCosts, most: u8)
+        requires room { length self.old.rows + 2 ≤ self.old.room }
+        requires light { 9 * most < 255 }
+        ensures appended { (pairs : List PairCosts) (one two : PairCosts)
+            → AreBranchCosts one first.now → AreBranchCosts two second.now
+            → CostAtMost most (one ∷ two ∷ []) → Holds most self.old pairs
+            → Holds most self.new (pairs ++ one ∷ two ∷ []) }
+        ensures held { length self.new.rows ≡ length self.old.rows + 2 }
+        ensures entries { AreEntries self.new.entries }
+        ensures room { self.new.room ≡ self.old.room }
+    {
+        let entries = u8x64::from_array(self.entries);
+        let (entries, common) = lanes::lower_above(entries, 254 - 9 * most);
+        let (entries, first_row) = lanes::next_entries(
+            entries,
+            u8x64::from_array(first.lower),
+            u8x64::from_array(first.higher),
+        );
+        let (entries, second_row) = lanes::next_entries(
+            entries,
+            u8x64::from_array(second.lower),
+            u8x64::from_array(second.higher),
+        );
+        self.entries = entries.to_array();
+        self.rows[self.held] = first_row;
+        self.rows[self.held + 1] = second_row;
+        self.held += 2;
+        self.base += u32::from(common);
+    }
+
+    /// Appends three pairs, each by what its branches cost. No pair held costs more than `most`, of which ten are less than
+    /// 255. There is room for them. Takes no memory.
+    #[inline(always)]
+    pub fn three_steps(
+        &mut self,
+        first: &BranchCosts,
+        second: &BranchCosts,
+        third: &BranchCosts,
+        most: u8,
+    )
+        requires room { length self.old.rows + 3 ≤ self.old.room }
+        requires light { 10 * most < 255 }
+        ensures appended { (pairs : List PairCosts) (one two three : PairCosts)
+            → AreBranchCosts one first.now → AreBranchCosts two second.now
+            → AreBranchCosts three third.now
+            → CostAtMost most (one ∷ two ∷ three ∷ []) → Holds most self.old pairs
+            → Holds most self.new (pairs ++ one ∷ two ∷ three ∷ []) }
+        ensures held { length self.new.rows ≡ length self.old.rows + 3 }
+        ensures entries { AreEntries self.new.entries }
+        ensures room { self.new.room ≡ self.old.room }
+    {
+        let entries = u8x64::from_array(self.entries);
+        let (entries, common) = lanes::lower_above(entries, 254 - 10 * most);
+        let (entries, first_row) = lanes::next_entries(
+            entries,
+            u8x64::from_array(first.lower),
+            u8x64::from_array(first.higher),
+        );
+        let (entries, second_row) = lanes::next_entries(
+            entries,
+            u8x64::from_array(second.lower),
+            u8x64::from_array(second.higher),
+        );
+        let (entries, third_row) = lanes::next_entries(
+            entries,
+            u8x64::from_array(third.lower),
+            u8x64::from_array(third.higher),
+        );
+        self.entries = entries.to_array();
+        self.rows[self.held] = first_row;
+        self.rows[self.held + 1] = second_row;
+        self.rows[self.held + 2] = third_row;
+        self.held += 3;
         self.base += u32::from(common);
     }
 

@@ -1,5 +1,5 @@
 -- The marks of decisions, and what they cost.
-use Rattle.std.proofs.Common.{◌≡◌, ℕ, zero, suc, ◌+◌, ◌*◌, List, [], ◌∷◌, ◌++◌, Bool, true, false, length, map, get_or, take, refl, sym, ◌∙◌, arith}
+use Rattle.std.proofs.Common.{◌≡◌, ℕ, zero, suc, ◌+◌, ◌*◌, List, [], ◌∷◌, ◌++◌, Bool, true, false, length, map, get_or, take, refl, sym, ◌∙◌, append_assoc, arith}
 use Rattle.std.specs.Prelude.{◌==◌, if◌then◌else◌}
 use Rattle.std.specs.List.{range_with_len}
 use Rattle.std.proofs.lemmas.List.FromFn.{length-map-range_with_len}
@@ -47,6 +47,22 @@ marks_of_costs rate decisions bits steps = from 0 steps
 -- the marks are made step by step
 pub marks_of_more : (rate : CodeRate) (decisions : List ℕ) (steps : ℕ) → marks_of rate decisions (steps + 1) ≡ marks_of rate decisions steps ++ marks_at rate decisions steps ∷ []
 marks_of_more = carried_pairs-more mark_of Absent
+
+-- two steps more, and three
+pub marks_of_two_more : (rate : CodeRate) (decisions : List ℕ) (steps : ℕ)
+    → marks_of rate decisions (steps + 2) ≡ marks_of rate decisions steps ++ marks_at rate decisions steps ∷ marks_at rate decisions (steps + 1) ∷ []
+marks_of_two_more rate decisions steps =
+    let two : steps + 2 ≡ steps + 1 + 1 = omega arith in
+    rw (two, marks_of_more rate decisions (steps + 1), marks_of_more rate decisions steps)
+    (append_assoc (marks_of rate decisions steps) (marks_at rate decisions steps ∷ []) (marks_at rate decisions (steps + 1) ∷ []))
+
+pub marks_of_three_more : (rate : CodeRate) (decisions : List ℕ) (steps : ℕ)
+    → marks_of rate decisions (steps + 3)
+    ≡ marks_of rate decisions steps ++ marks_at rate decisions steps ∷ marks_at rate decisions (steps + 1) ∷ marks_at rate decisions (steps + 2) ∷ []
+marks_of_three_more rate decisions steps =
+    let three : steps + 3 ≡ steps + 2 + 1 = omega arith in
+    rw (three, marks_of_more rate decisions (steps + 2), marks_of_two_more rate decisions steps)
+    (append_assoc (marks_of rate decisions steps) (marks_at rate decisions steps ∷ marks_at rate decisions (steps + 1) ∷ []) (marks_at rate decisions (steps + 2) ∷ []))
 
 -- a list's distance to the marks of decisions is the number of those that differ from its kept code
 pub distance_of_decisions : (rate : CodeRate) (steps : ℕ) (u decisions : List ℕ) → AreBits decisions → length u ≡ steps → distance (marks_of rate decisions steps) u ≡ changes rate steps u decisions

@@ -87,6 +87,54 @@ impl Trellis {
         self.memory.step(branch_costs(a, b), MOST_COST);
     }
 
+    // Appends two pairs of marks.
+    #[inline(always)]
+    fn two_steps(&mut self, first: (Mark, Mark), second: (Mark, Mark), steps: &mut Steps)
+        requires room { length self.old.rows + 2 ≤ self.old.room }
+        ensures appended { (marks : List (Mark × Mark)) → StandsFor self.old marks
+            → StandsFor self.new (marks ++ first ∷ second ∷ []) }
+        ensures held { length self.new.rows ≡ length self.old.rows + 2 }
+        ensures entries { AreEntries self.new.entries }
+        ensures room { self.new.room ≡ self.old.room }
+        ensures counted { steps.new ≡ raised_by 2 steps.old }
+    {
+        steps.tick();
+        steps.tick();
+        self.memory.two_steps(
+            branch_costs(first.0, first.1),
+            branch_costs(second.0, second.1),
+            MOST_COST,
+        );
+    }
+
+    // Appends three pairs of marks.
+    #[inline(always)]
+    fn three_steps(
+        &mut self,
+        first: (Mark, Mark),
+        second: (Mark, Mark),
+        third: (Mark, Mark),
+        steps: &mut Steps,
+    )
+        requires room { length self.old.rows + 3 ≤ self.old.room }
+        ensures appended { (marks : List (Mark × Mark)) → StandsFor self.old marks
+            → StandsFor self.new (marks ++ first ∷ second ∷ third ∷ []) }
+        ensures held { length self.new.rows ≡ length self.old.rows + 3 }
+        ensures entries { AreEntries self.new.entries }
+        ensures room { self.new.room ≡ self.old.room }
+        ensures counted { steps.new ≡ raised_by 3 steps.old }
+    {
+        steps.tick();
+        steps.tick();
+        steps.tick();
+        self.memory.three_steps(
+            branch_costs(first.0, first.1),
+            branch_costs(second.0, second.1),
+            branch_costs(third.0, third.1),
+            MOST_COST,
+        );
+    }
+
     /// Writes the nearest list for the pairs held, at least 6, one bit into each place of `out`, which has one for each
     /// pair. Answers its distance. The trellis holds no pairs afterwards. Takes no memory.
     pub fn finish(&mut self, out: &mut [u8]) -> u32

@@ -7,7 +7,7 @@ ghost use Rattle.rate_table.specs.Table.{row_of};
 ghost use Rattle.survivor_memory.specs.Survivors.{AreEntries};
 ghost use Rattle.viterbi_lanes.specs.declared.Mark.{Mark};
 ghost use Rattle.viterbi_lanes.specs.declared.Mark.TheVariants.{Zero, One, Absent};
-ghost use Rattle.viterbi_lanes.specs.Decisions.{carried_steps, marks_of};
+ghost use Rattle.viterbi_lanes.specs.Decisions.{carried_steps, marks_at, marks_of};
 ghost use Rattle.viterbi_lanes.specs.Marks.{StandsFor};
 
 use crate::{Mark, Trellis};
@@ -65,13 +65,20 @@ impl Trellis {
         ensures room { self.new.room ≡ self.old.room }
         ensures counted { steps.new ≡ raised_by (period_of rate) steps.old }
     {
-        let next = self.feed_step(rate, 0, decisions, next, steps);
         match rate {
-            CodeRate::Half => next,
-            CodeRate::TwoThirds => self.feed_step(rate, 1, decisions, next, steps),
+            CodeRate::Half => self.feed_step(rate, 0, decisions, next, steps),
+            CodeRate::TwoThirds => {
+                let (first, next) = step_marks(rate, 0, decisions, next);
+                let (second, next) = step_marks(rate, 1, decisions, next);
+                self.two_steps(first, second, steps);
+                next
+            }
             CodeRate::ThreeQuarters => {
-                let next = self.feed_step(rate, 1, decisions, next, steps);
-                self.feed_step(rate, 2, decisions, next, steps)
+                let (first, next) = step_marks(rate, 0, decisions, next);
+                let (second, next) = step_marks(rate, 1, decisions, next);
+                let (third, next) = step_marks(rate, 2, decisions, next);
+                self.three_steps(first, second, third, steps);
+                next
             }
         }
     }
@@ -104,12 +111,9 @@ impl Trellis {
         ensures room { self.new.room ≡ self.old.room }
         ensures counted { steps.new ≡ raised_by 1 steps.old }
     {
-        let (a_is_kept, b_is_kept) = kept_in_period(rate, phase);
-        let a = mark(a_is_kept, decisions, next);
-        let next = next + usize::from(a_is_kept);
-        let b = mark(b_is_kept, decisions, next);
+        let ((a, b), next) = step_marks(rate, phase, decisions, next);
         self.step(a, b, steps);
-        next + usize::from(b_is_kept)
+        next
     }
 
     /// Appends the marks of one symbol of a DATA field of so many octets, 1 to 4095, whose symbols before it are held: those
@@ -147,6 +151,27 @@ impl Trellis {
         let left = bits_through_tail - symbol * field_bits;
         self.feed(rate.code_rate(), decisions, field_bits.min(left), steps);
     }
+}
+
+// The marks of a step, by how many steps of its period stand before it, of decisions from a place on, and the place behind
+// them.
+#[inline(always)]
+fn step_marks(rate: CodeRate, phase: usize, decisions: &[u8], next: usize) -> ((Mark, Mark), usize)
+    requires phase { phase < period_of rate }
+    requires at { (step : ℕ) × ((step % period_of rate ≡ phase) × ((next ≡ kept_count rate step)
+        × (kept_count rate (step + 1) ≤ length decisions.now))) }
+    requires few { next ≤ 2 ^ 23 }
+    ensures marks { (step : ℕ) → step % period_of rate ≡ phase → next ≡ kept_count rate step
+        → result.0 ≡ marks_at rate decisions.now step }
+    ensures next { (step : ℕ) → step % period_of rate ≡ phase → next ≡ kept_count rate step
+        → result.1 ≡ kept_count rate (step + 1) }
+    ensures few { result.1 ≤ next + 2 }
+{
+    let (a_is_kept, b_is_kept) = kept_in_period(rate, phase);
+    let a = mark(a_is_kept, decisions, next);
+    let next = next + usize::from(a_is_kept);
+    let b = mark(b_is_kept, decisions, next);
+    ((a, b), next + usize::from(b_is_kept))
 }
 
 // The mark of a place, which is that of the next decision where the place is kept.

@@ -1,54 +1,66 @@
-use Rattle.std.proofs.Common.{◌≡◌, ◌+◌, ◌%◌, ap, arith}
+use Rattle.std.proofs.Common.{◌≡◌, ◌+◌, ◌%◌, ◌++◌, ap, append_assoc, arith}
 use Rattle.puncture_map.specs.Kept.{period_of}
 use Rattle.puncture_map.proofs.Periods.{at_start}
 use Rattle.puncture_map.proofs.Ranks.{kept_count-rises}
+use Rattle.viterbi_lanes.specs.Decisions.{marks_of}
+use Rattle.viterbi_lanes.proofs.Decisions.{marks_of_two_more, marks_of_three_more}
 use Rattle.viterbi_lanes.proofs.Trellis.feed_period.Goals as goal
 
-pub feed_step-next-requires-clause-at : goal.feed_step-next-requires-clause-at
-feed_step-next-requires-clause-at c =
+pub step_marks-next-requires-clause-at : goal.step_marks-next-requires-clause-at
+step_marks-next-requires-clause-at c =
     let (step, (phase, (at, enough))) = c.requires.begins in
     (step, (phase, (at, omega (arith, enough, kept_count-rises c.args.rate (step + 1) (step + period_of c.args.rate) (omega (arith, (at_start c.args.rate).1))))))
 
-pub feed_step-next-requires-in-ThreeQuarters-clause-at : goal.feed_step-next-requires-in-ThreeQuarters-clause-at
-feed_step-next-requires-in-ThreeQuarters-clause-at c =
+pub step_marks-next-requires-in-ThreeQuarters-clause-at : goal.step_marks-next-requires-in-ThreeQuarters-clause-at
+step_marks-next-requires-in-ThreeQuarters-clause-at c =
+    let (step, (phase, (at, enough))) = c.requires.begins in
+    (step, (phase, (at, omega (arith, enough, kept_count-rises c.args.rate (step + 1) (step + period_of c.args.rate) (omega (arith, (at_start c.args.rate).1))))))
+
+pub step_marks-next-requires-in-ThreeQuarters-2-clause-at : goal.step_marks-next-requires-in-ThreeQuarters-2-clause-at
+step_marks-next-requires-in-ThreeQuarters-2-clause-at c =
     let (step, (phase, (at, enough))) = c.requires.begins in
     let three : period_of c.args.rate ≡ 3 = ap period_of c.in-ThreeQuarters.is in
     let begins : step % 3 ≡ 0 = rw three at phase in
-    (step + 1, (rw three (omega (arith, begins)), (c.feed_step-next.ensures.next step phase at, omega (arith, enough, kept_count-rises c.args.rate (step + 1 + 1) (step + period_of c.args.rate) (omega (arith, three))))))
+    (step + 1, (rw three (omega (arith, begins)), (c.step_marks-next-in-ThreeQuarters.ensures.next step phase at, omega (arith, enough, kept_count-rises c.args.rate (step + 1 + 1) (step + period_of c.args.rate) (omega (arith, three))))))
 
 pub returns-in-TwoThirds-clause-appended : goal.returns-in-TwoThirds-clause-appended
 returns-in-TwoThirds-clause-appended c = λ marks step phase at stands.
-    let two : period_of c.args.rate ≡ 2 = ap period_of c.in-TwoThirds.is in
+    let rate = c.args.rate in
+    let decisions = c.args.decisions.now in
+    let before = marks_of rate decisions step in
+    let two : period_of rate ≡ 2 = ap period_of c.in-TwoThirds.is in
     let begins : step % 2 ≡ 0 = rw two at phase in
-    let first = c.feed_step-next.ensures.appended marks step phase at stands in
-    let second = c.feed_step.ensures.appended marks (step + 1) (rw two (omega (arith, begins))) (c.feed_step-next.ensures.next step phase at) first in
-    let whole : step + 1 + 1 ≡ step + period_of c.args.rate = omega (arith, two) in
-    rw whole at second
+    let at_second = c.step_marks-next.ensures.next step phase at in
+    let fed = c.two_steps.ensures.appended (marks ++ before) stands in
+    rw two (rw (append_assoc, c.step_marks-next.ensures.marks step phase at, c.step_marks-next-in-TwoThirds.ensures.marks (step + 1) (rw two (omega (arith, begins))) at_second, ← marks_of_two_more rate decisions step) at fed)
 
 pub returns-in-TwoThirds-clause-next : goal.returns-in-TwoThirds-clause-next
 returns-in-TwoThirds-clause-next c = λ step phase at.
     let two : period_of c.args.rate ≡ 2 = ap period_of c.in-TwoThirds.is in
     let begins : step % 2 ≡ 0 = rw two at phase in
-    let second = c.feed_step.ensures.next (step + 1) (rw two (omega (arith, begins))) (c.feed_step-next.ensures.next step phase at) in
+    let second = c.step_marks-next-in-TwoThirds.ensures.next (step + 1) (rw two (omega (arith, begins))) (c.step_marks-next.ensures.next step phase at) in
     let whole : step + 1 + 1 ≡ step + period_of c.args.rate = omega (arith, two) in
     rw whole at second
 
 pub returns-in-ThreeQuarters-clause-appended : goal.returns-in-ThreeQuarters-clause-appended
 returns-in-ThreeQuarters-clause-appended c = λ marks step phase at stands.
-    let three : period_of c.args.rate ≡ 3 = ap period_of c.in-ThreeQuarters.is in
+    let rate = c.args.rate in
+    let decisions = c.args.decisions.now in
+    let before = marks_of rate decisions step in
+    let three : period_of rate ≡ 3 = ap period_of c.in-ThreeQuarters.is in
     let begins : step % 3 ≡ 0 = rw three at phase in
-    let first = c.feed_step-next.ensures.appended marks step phase at stands in
-    let second = c.feed_step-next-in-ThreeQuarters.ensures.appended marks (step + 1) (rw three (omega (arith, begins))) (c.feed_step-next.ensures.next step phase at) first in
-    let at_third = c.feed_step-next-in-ThreeQuarters.ensures.next (step + 1) (rw three (omega (arith, begins))) (c.feed_step-next.ensures.next step phase at) in
-    let third = c.feed_step-in-ThreeQuarters.ensures.appended marks (step + 1 + 1) (rw three (omega (arith, begins))) at_third second in
-    let whole : step + 1 + 1 + 1 ≡ step + period_of c.args.rate = omega (arith, three) in
-    rw whole at third
+    let at_second = c.step_marks-next-in-ThreeQuarters.ensures.next step phase at in
+    let at_third = c.step_marks-next-in-ThreeQuarters-2.ensures.next (step + 1) (rw three (omega (arith, begins))) at_second in
+    let one_one : step + 1 + 1 ≡ step + 2 = omega arith in
+    let third = c.step_marks-next-in-ThreeQuarters-3.ensures.marks (step + 2) (rw three (omega (arith, begins))) (rw one_one at at_third) in
+    let fed = c.three_steps.ensures.appended (marks ++ before) stands in
+    rw three (rw (append_assoc, c.step_marks-next-in-ThreeQuarters.ensures.marks step phase at, c.step_marks-next-in-ThreeQuarters-2.ensures.marks (step + 1) (rw three (omega (arith, begins))) at_second, third, ← marks_of_three_more rate decisions step) at fed)
 
 pub returns-in-ThreeQuarters-clause-next : goal.returns-in-ThreeQuarters-clause-next
 returns-in-ThreeQuarters-clause-next c = λ step phase at.
     let three : period_of c.args.rate ≡ 3 = ap period_of c.in-ThreeQuarters.is in
     let begins : step % 3 ≡ 0 = rw three at phase in
-    let at_third = c.feed_step-next-in-ThreeQuarters.ensures.next (step + 1) (rw three (omega (arith, begins))) (c.feed_step-next.ensures.next step phase at) in
-    let third = c.feed_step-in-ThreeQuarters.ensures.next (step + 1 + 1) (rw three (omega (arith, begins))) at_third in
+    let at_third = c.step_marks-next-in-ThreeQuarters-2.ensures.next (step + 1) (rw three (omega (arith, begins))) (c.step_marks-next-in-ThreeQuarters.ensures.next step phase at) in
+    let third = c.step_marks-next-in-ThreeQuarters-3.ensures.next (step + 1 + 1) (rw three (omega (arith, begins))) at_third in
     let whole : step + 1 + 1 + 1 ≡ step + period_of c.args.rate = omega (arith, three) in
     rw whole at third

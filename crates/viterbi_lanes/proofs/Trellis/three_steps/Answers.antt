@@ -1,0 +1,10 @@
+use Rattle.std.proofs.Common.{map, ◌∷◌, []}
+use Rattle.std.proofs.lemmas.List.{map-append}
+use Rattle.viterbi_lanes.specs.Marks.{costs_of}
+use Rattle.viterbi_lanes.proofs.Distances.{marks_cost_at_most_2}
+use Rattle.viterbi_lanes.proofs.Trellis.three_steps.Goals as goal
+
+pub returns-clause-appended : goal.returns-clause-appended
+returns-clause-appended c = λ marks stands.
+    rw (map-append costs_of marks (c.args.first ∷ c.args.second ∷ c.args.third ∷ []))
+    (c.three_steps.ensures.appended (map costs_of marks) (costs_of c.args.first) (costs_of c.args.second) (costs_of c.args.third) c.branch_costs.ensures c.branch_costs-2.ensures c.branch_costs-3.ensures (marks_cost_at_most_2 (c.args.first ∷ c.args.second ∷ c.args.third ∷ [])) (rw (← c.self.view_is) at stands))
