@@ -4,7 +4,7 @@ use Rattle.std.proofs.lemmas.Bool.{cases_lt}
 use Rattle.integer_laws.specs.Size.{sum_of_squares}
 use Rattle.integer_laws.proofs.Order.{pos-le, unsigned_abs-le}
 use Rattle.integer_laws.proofs.Ring.{equal_by_multiple, ring, negated, number, square, ◌⊕◌, ◌⊖◌, ◌⊗◌, ◌≗◌}
-use Rattle.integer_laws.proofs.Sizes.{size_of_nat, size_of_scaled, size_of_unscaled, size_to_nat, sum_of_squares-scaled, sum_of_squares_is}
+use Rattle.integer_laws.proofs.Sizes.{size_of_nat, size_of_scaled, size_of_unscaled, size_to_nat, sum_of_squares-product_with_conjugate, sum_of_squares-scaled, sum_of_squares_is}
 use Rattle.fixed_complex.specs.declared.Cx.{Cx}
 use Rattle.fixed_complex.specs.Pairs.{IsAtLeastOfSize, IsOfSize, conjugate, minus, multiple, plus, squared_size, times}
 use Rattle.fixed_complex.proofs.Pairs.{same_parts}
@@ -34,13 +34,10 @@ parts_small a b u v e small =
     let n = unsigned_abs a * unsigned_abs a + unsigned_abs b * unsigned_abs b in
     let m = unsigned_abs u * unsigned_abs u + unsigned_abs v * unsigned_abs v in
     let product : sum_of_squares (a *ℤ u +ℤ b *ℤ v) (b *ℤ u -ℤ a *ℤ v) ≡ pos (n * m) =
-    law a b u v ∙ rw (sum_of_squares_is a b, sum_of_squares_is u v) refl in
+    sum_of_squares-product_with_conjugate a b u v ∙ rw (sum_of_squares_is a b, sum_of_squares_is u v) refl in
     let whole = ap unsigned_abs (sym (sum_of_squares_is (a *ℤ u +ℤ b *ℤ v) (b *ℤ u -ℤ a *ℤ v)) ∙ product) in
     let within : n * m ≤ e * e * m = mul-le-mul (size_to_nat a b e small) (omega arith) in
     omega (arith, whole, within)
-  where
-    law : (a b u v : ℤ) → sum_of_squares (a *ℤ u +ℤ b *ℤ v) (b *ℤ u -ℤ a *ℤ v) ≡ sum_of_squares a b *ℤ sum_of_squares u v
-    law = ring 4 (λ a b u v. square (a ⊗ u ⊕ b ⊗ v) ⊕ square (b ⊗ u ⊖ a ⊗ v) ≗ (square a ⊕ square b) ⊗ (square u ⊕ square v)) refl
 
 -- an axis times 1296, less the point's times the square of the channel's size
 i_error : (y z x w u v : ℤ) → pos 1296 *ℤ (y *ℤ u -ℤ z *ℤ neg_ℤ v) -ℤ x *ℤ sum_of_squares u v ≡ (pos 1296 *ℤ y -ℤ (x *ℤ u -ℤ w *ℤ v)) *ℤ u +ℤ (pos 1296 *ℤ z -ℤ (x *ℤ v +ℤ w *ℤ u)) *ℤ v
