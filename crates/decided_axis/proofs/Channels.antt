@@ -9,6 +9,7 @@ use Rattle.fixed_complex.specs.declared.Cx.{Cx}
 use Rattle.fixed_complex.specs.Pairs.{IsAtLeastOfSize, IsOfSize, conjugate, minus, multiple, plus, squared_size, times}
 use Rattle.fixed_complex.proofs.Pairs.{same_parts}
 use Rattle.fixed_complex.proofs.PairSizes.{least_squared, size-minus, size-multiple, size-plus, size-times, squared_size_is, wider}
+use Rattle.fixed_complex.proofs.Sums.{minus_minus}
 use Rattle.rate_table.specs.declared.Modulation.{Modulation}
 use Rattle.constellations.specs.Axes.{amplitude_of}
 use Rattle.constellations.specs.Decisions.{IsNear}
@@ -91,12 +92,6 @@ squared_multiple n a =
     sum_of_squares-scaled (pos n) a.re a.im ∙ rw (squared_size_is a) refl in
     ap unsigned_abs (sym (squared_size_is (multiple (pos n) a)) ∙ whole)
 
-channel_law : (h g : Cx) → minus h (minus h g) ≡ g
-channel_law h g = same_parts _ _ (law h.re g.re) (law h.im g.im)
-  where
-    law : (h g : ℤ) → h -ℤ (h -ℤ g) ≡ g
-    law = ring 2 (λ h g. h ⊖ (h ⊖ g) ≗ g) refl
-
 too_small : (d n l m : ℕ) → n * n * m ≤ d * d → l * l ≤ m → d < n * l → ⊥
 too_small d n l m most least below =
     let more : (d + 1) * (d + 1) ≤ n * l * (n * l) = mul-le-mul (omega arith) (omega arith) in
@@ -109,7 +104,7 @@ left_of s e least left g h estimated large enough =
       | inl small ↦
           let size : IsOfSize left h = record { size = size_of_nat h.re h.im left (omega arith) } in
           let both = size-minus (s * left) (s * e) (multiple (pos s) h) _ (size-multiple s left h size) estimated.near in
-          let whole : IsOfSize (s * left + s * e) (multiple (pos 41472) g) = rw (channel_law (multiple (pos s) h) (multiple (pos 41472) g)) at both in
+          let whole : IsOfSize (s * left + s * e) (multiple (pos 41472) g) = rw (minus_minus (multiple (pos s) h) (multiple (pos 41472) g)) at both in
           let most = size_to_nat (pos 41472 *ℤ g.re) (pos 41472 *ℤ g.im) (s * left + s * e) whole.size in
           absurd (too_small (s * left + s * e) 41472 least (squared_size g) (omega (arith, most, squared_multiple 41472 g)) (least_squared least g large) enough)
       | inr past ↦ record { size = rw (squared_size_is h) (pos-le (left * left) (squared_size h) past) }

@@ -1,7 +1,7 @@
 -- Sums of pairs over places, and identities of sums and products.
 use Rattle.std.proofs.Common.{◌≡◌, ℕ, zero, suc, ◌+◌, ◌*◌, refl, ap, sym, ◌∙◌, arith, ◌<◌}
 use Rattle.std.specs.Prelude.{ℤ, pos, ◌+ℤ◌, ◌-ℤ◌, ◌*ℤ◌}
-use Rattle.std.proofs.Math.IntN.{*ℤ-zero, +ℤ_idr}
+use Rattle.std.proofs.Math.IntN.{*ℤ-zero, +ℤ_idr, -ℤ-+ℤ_cancel}
 use Rattle.std.proofs.lemmas.Int.{ints}
 use Rattle.fixed_complex.specs.declared.Cx.{Cx}
 use Rattle.fixed_complex.specs.Laws.{sum_below}
@@ -24,6 +24,15 @@ sum_of_differences a b c d = same_parts _ _ (law a.re b.re c.re d.re) (law a.im 
   where
     law : (a b c d : ℤ) → (a -ℤ b) +ℤ (c -ℤ d) ≡ (a +ℤ c) -ℤ (b +ℤ d)
     law = ring 4 (λ a b c d. (a ⊖ b) ⊕ (c ⊖ d) ≗ (a ⊕ c) ⊖ (b ⊕ d)) refl
+
+pub minus_plus : (a b : Cx) → plus (minus a b) b ≡ a
+minus_plus a b = same_parts _ _ (-ℤ-+ℤ_cancel a.re b.re) (-ℤ-+ℤ_cancel a.im b.im)
+
+pub minus_minus : (a b : Cx) → minus a (minus a b) ≡ b
+minus_minus a b = same_parts _ _ (law a.re b.re) (law a.im b.im)
+  where
+    law : (a b : ℤ) → a -ℤ (a -ℤ b) ≡ b
+    law = ring 2 (λ a b. a ⊖ (a ⊖ b) ≗ b) refl
 
 pub plus_zero : (a : Cx) → plus a zero_pair ≡ a
 plus_zero a = same_parts _ _ (+ℤ_idr a.re) (+ℤ_idr a.im)
