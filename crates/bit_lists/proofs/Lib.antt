@@ -1,4 +1,5 @@
 pub mod BitFacts
+pub mod ByPlace
 pub mod EightBits
 pub mod Texts
 mod Differences

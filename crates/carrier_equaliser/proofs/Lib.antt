@@ -1,4 +1,3 @@
 pub mod ComingBack
-pub mod Places
 pub mod Numbers
 mod Silent

@@ -2,13 +2,14 @@
 use Rattle.std.proofs.Common.{◌≡◌, ℕ, ◌+◌, ◌-◌, ◌*◌, ◌/◌, ◌%◌, ◌<◌, ◌≤◌, List, length, replicate, slice_index, take, refl, ap, sym, ◌∙◌, inl, inr, arith}
 use Rattle.std.proofs.lemmas.Bool.{cases_lt}
 use Rattle.bit_lists.specs.Bits.{AreBits}
+use Rattle.bit_lists.proofs.ByPlace.{AreBits-zeros, slice_index-zeros, take-by_place}
 use Rattle.fixed_complex.specs.declared.Cx.{Cx}
 use Rattle.rate_table.specs.declared.Modulation.{Modulation}
 use Rattle.rate_table.specs.declared.Modulation.TheVariants.{Bpsk, Qpsk, Qam16, Qam64}
 use Rattle.rate_table.specs.declared.Rate.{Rate}
 use Rattle.rate_table.specs.Table.{bits_of_modulation, row_of}
+use Rattle.rate_table.proofs.ByRate.{coded_bits-le, coded_bits_by_modulation, width_is}
 use Rattle.carrier_equaliser.specs.Decided.{decided_at, decision_at, interleaved_decisions}
-use Rattle.carrier_equaliser.proofs.Places.{coded-le, take-filled, width-coded, width-of, zeros-at, zeros-bits}
 
 -- the places of a data number's bits
 record IsPlaced (width number place : ℕ) : Type 0 where
@@ -66,8 +67,8 @@ module _ (modulation : Modulation) (channels carriers : List Cx) where
   decided_none = record {
     long = refl;
     decided = λ rate is k below. absurd (omega arith);
-    rest = λ k _. zeros-at 288 k;
-    bits = zeros-bits 288;
+    rest = λ k _. slice_index-zeros 288 k;
+    bits = AreBits-zeros 288;
   }
 
   pub decided_more : (number at : ℕ) (out next bits : List ℕ) → at ≡ number * bits_of_modulation modulation → length next ≡ 288 → AreBits next → ArePut out next bits at
@@ -78,7 +79,7 @@ module _ (modulation : Modulation) (channels carriers : List Cx) where
         long = long;
         decided = λ rate is k below.
             let here = placed modulation number k in
-            let width : (row_of rate).bits_per_carrier ≡ w = width-of rate ∙ ap bits_of_modulation is in
+            let width : (row_of rate).bits_per_carrier ≡ w = width_is rate ∙ ap bits_of_modulation is in
             elim (cases_lt k (number * w)) [
               | inl before ↦ put.before k (omega (arith, is_at, before)) ∙ so_far.decided rate is k before
               | inr from ↦
@@ -106,14 +107,14 @@ module _ (modulation : Modulation) (channels carriers : List Cx) where
       → take (row_of rate).coded_bits out ≡ interleaved_decisions rate channels carriers
   unfolding interleaved_decisions
   decided_all out all rate is =
-      let width : 48 * bits_of_modulation modulation ≡ (row_of rate).coded_bits = ap (λ w. 48 * w) (sym (width-of rate ∙ ap bits_of_modulation is)) ∙ width-coded rate in
-      take-filled (decision_at rate channels carriers) (row_of rate).coded_bits out
-      (omega (arith, coded-le rate, all.long))
+      let width : 48 * bits_of_modulation modulation ≡ (row_of rate).coded_bits = sym (coded_bits_by_modulation rate ∙ ap (λ m. 48 * bits_of_modulation m) is) in
+      take-by_place (decision_at rate channels carriers) (row_of rate).coded_bits out
+      (omega (arith, coded_bits-le rate, all.long))
       (λ k lt. all.decided rate is k (omega (arith, width, lt)))
 
 -- zeros behind the decisions of a modulation, which are those of a rate
 pub zeros_behind : (rate : Rate) (modulation : Modulation) (out : List ℕ) → (row_of rate).modulation ≡ modulation → ((k : ℕ) → 48 * bits_of_modulation modulation ≤ k → slice_index out k ≡ 0)
     → (k : ℕ) → (row_of rate).coded_bits ≤ k → slice_index out k ≡ 0
 zeros_behind rate modulation out is none k past =
-    let width : 48 * bits_of_modulation modulation ≡ (row_of rate).coded_bits = ap (λ w. 48 * w) (sym (width-of rate ∙ ap bits_of_modulation is)) ∙ width-coded rate in
+    let width : 48 * bits_of_modulation modulation ≡ (row_of rate).coded_bits = sym (coded_bits_by_modulation rate ∙ ap (λ m. 48 * bits_of_modulation m) is) in
     none k (omega (arith, width, past))

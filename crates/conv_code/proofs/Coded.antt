@@ -1,24 +1,26 @@
 -- The code as a list.
-use Rattle.std.proofs.Common.{◌≡◌, ℕ, zero, suc, ◌+◌, ◌*◌, ◌<◌, List, [], ◌∷◌, ◌++◌, length, slice_index, refl, ap, arith, add-zero}
+use Rattle.std.proofs.Common.{◌≡◌, ℕ, zero, suc, ◌+◌, ◌*◌, ◌<◌, List, [], ◌∷◌, ◌++◌, length, set, slice_index, take, refl, sym, ◌∙◌, append_assoc, arith, add-zero}
 use Rattle.std.specs.List.{flat_map, range_with_len}
+use Rattle.std.proofs.lemmas.List.{length-set, take_more_set}
 use Rattle.std.proofs.lemmas.List.Concat.{flat_map-append}
 use Rattle.std.proofs.lemmas.List.Elements.{All-nil, All-cons}
 use Rattle.bit_lists.specs.Bits.{IsBit, AreBits}
+use Rattle.bit_lists.proofs.ByPlace.{one_place_more}
 use Rattle.conv_code.specs.Code.{parity_a, parity_b, parities, Codes, code_of}
-
--- the places from a on, and one more
-range_with_len_more : (a n : ℕ) → range_with_len a (n + 1) ≡ range_with_len a n ++ (a + n) ∷ []
-range_with_len_more a zero = rw add-zero
-range_with_len_more a (suc n) =
-    let next : suc n + 1 ≡ suc (n + 1) = omega arith in
-    let last : a + 1 + n ≡ a + suc n = omega arith in
-    rw (next, ← last) (ap (λ xs. a ∷ xs) (range_with_len_more (a + 1) n))
 
 -- the code of one more place
 pub code_more : (u : List ℕ) (i : ℕ) → flat_map (parities u) (range_with_len 0 (i + 1)) ≡ flat_map (parities u) (range_with_len 0 i) ++ parity_a u i ∷ parity_b u i ∷ []
 code_more u i =
-    let last : 0 + i ≡ i = omega arith in
-    rw (range_with_len_more 0 i, last, flat_map-append (parities u) (range_with_len 0 i) (i ∷ []))
+    rw (one_place_more 0 i i (omega arith), flat_map-append (parities u) (range_with_len 0 i) (i ∷ []))
+
+-- the code that is set in a list, and two places more
+pub coded_more : (u code : List ℕ) (i a b : ℕ) → 2 * i + 1 < length code → a ≡ parity_a u i → b ≡ parity_b u i → take (2 * i) code ≡ flat_map (parities u) (range_with_len 0 i)
+    → take (2 * (i + 1)) (set (set code (2 * i) a) (2 * i + 1) b) ≡ flat_map (parities u) (range_with_len 0 (i + 1))
+coded_more u code i a b within first second coded =
+    let next : 2 * (i + 1) ≡ 2 * i + 1 + 1 = omega arith in
+    rw next
+    (take_more_set (set code (2 * i) a) (2 * i + 1) b (omega (arith, length-set {A = ℕ}))
+    ∙ rw (take_more_set code (2 * i) a (omega arith), coded, append_assoc, first, second) (sym (code_more u i)))
 
 -- two entries for each place
 length_code : (u : List ℕ) (a n : ℕ) → length (flat_map (parities u) (range_with_len a n)) ≡ 2 * n

@@ -1,5 +1,5 @@
 -- Bodies that come back over a channel: the estimate by the long training field, and a symbol's bits.
-use Rattle.std.proofs.Common.{◌≡◌, ℕ, ◌*◌, ◌<◌, true, eqb, List, refl, ap, subst, ◌∙◌, arith, pos, ◌*ℤ◌, unsigned_abs}
+use Rattle.std.proofs.Common.{◌≡◌, ℕ, ◌*◌, ◌<◌, true, eqb, List, refl, ap, subst, ◌∙◌, pos, ◌*ℤ◌, unsigned_abs}
 use Rattle.std.proofs.lemmas.Bool.{agree_below_at, eqb-true}
 use Rattle.integer_laws.proofs.Order.{square_is}
 use Rattle.fixed_complex.specs.declared.Cx.{Cx}

@@ -4,11 +4,12 @@ use Rattle.std.proofs.lemmas.Bool.{cases_lt}
 use Rattle.integer_laws.specs.Size.{sum_of_squares}
 use Rattle.integer_laws.proofs.Order.{pos-le, unsigned_abs-le}
 use Rattle.integer_laws.proofs.Ring.{equal_by_multiple, ring, negated, number, square, ◌⊕◌, ◌⊖◌, ◌⊗◌, ◌≗◌}
-use Rattle.integer_laws.proofs.Sizes.{size_of_nat, size_of_scaled, size_of_unscaled, size_to_nat, sum_of_squares-scaled, sum_of_squares_is}
+use Rattle.integer_laws.proofs.Sizes.{size_of_nat, size_of_scaled, size_of_unscaled, size_to_nat, sum_of_squares-product_with_conjugate, sum_of_squares-scaled, sum_of_squares_is}
 use Rattle.fixed_complex.specs.declared.Cx.{Cx}
 use Rattle.fixed_complex.specs.Pairs.{IsAtLeastOfSize, IsOfSize, conjugate, minus, multiple, plus, squared_size, times}
 use Rattle.fixed_complex.proofs.Pairs.{same_parts}
 use Rattle.fixed_complex.proofs.PairSizes.{least_squared, size-minus, size-multiple, size-plus, size-times, squared_size_is, wider}
+use Rattle.fixed_complex.proofs.Sums.{minus_minus}
 use Rattle.rate_table.specs.declared.Modulation.{Modulation}
 use Rattle.constellations.specs.Axes.{amplitude_of}
 use Rattle.constellations.specs.Decisions.{IsNear}
@@ -34,13 +35,10 @@ parts_small a b u v e small =
     let n = unsigned_abs a * unsigned_abs a + unsigned_abs b * unsigned_abs b in
     let m = unsigned_abs u * unsigned_abs u + unsigned_abs v * unsigned_abs v in
     let product : sum_of_squares (a *ℤ u +ℤ b *ℤ v) (b *ℤ u -ℤ a *ℤ v) ≡ pos (n * m) =
-    law a b u v ∙ rw (sum_of_squares_is a b, sum_of_squares_is u v) refl in
+    sum_of_squares-product_with_conjugate a b u v ∙ rw (sum_of_squares_is a b, sum_of_squares_is u v) refl in
     let whole = ap unsigned_abs (sym (sum_of_squares_is (a *ℤ u +ℤ b *ℤ v) (b *ℤ u -ℤ a *ℤ v)) ∙ product) in
     let within : n * m ≤ e * e * m = mul-le-mul (size_to_nat a b e small) (omega arith) in
     omega (arith, whole, within)
-  where
-    law : (a b u v : ℤ) → sum_of_squares (a *ℤ u +ℤ b *ℤ v) (b *ℤ u -ℤ a *ℤ v) ≡ sum_of_squares a b *ℤ sum_of_squares u v
-    law = ring 4 (λ a b u v. square (a ⊗ u ⊕ b ⊗ v) ⊕ square (b ⊗ u ⊖ a ⊗ v) ≗ (square a ⊕ square b) ⊗ (square u ⊕ square v)) refl
 
 -- an axis times 1296, less the point's times the square of the channel's size
 i_error : (y z x w u v : ℤ) → pos 1296 *ℤ (y *ℤ u -ℤ z *ℤ neg_ℤ v) -ℤ x *ℤ sum_of_squares u v ≡ (pos 1296 *ℤ y -ℤ (x *ℤ u -ℤ w *ℤ v)) *ℤ u +ℤ (pos 1296 *ℤ z -ℤ (x *ℤ v +ℤ w *ℤ u)) *ℤ v
@@ -94,12 +92,6 @@ squared_multiple n a =
     sum_of_squares-scaled (pos n) a.re a.im ∙ rw (squared_size_is a) refl in
     ap unsigned_abs (sym (squared_size_is (multiple (pos n) a)) ∙ whole)
 
-channel_law : (h g : Cx) → minus h (minus h g) ≡ g
-channel_law h g = same_parts _ _ (law h.re g.re) (law h.im g.im)
-  where
-    law : (h g : ℤ) → h -ℤ (h -ℤ g) ≡ g
-    law = ring 2 (λ h g. h ⊖ (h ⊖ g) ≗ g) refl
-
 too_small : (d n l m : ℕ) → n * n * m ≤ d * d → l * l ≤ m → d < n * l → ⊥
 too_small d n l m most least below =
     let more : (d + 1) * (d + 1) ≤ n * l * (n * l) = mul-le-mul (omega arith) (omega arith) in
@@ -112,7 +104,7 @@ left_of s e least left g h estimated large enough =
       | inl small ↦
           let size : IsOfSize left h = record { size = size_of_nat h.re h.im left (omega arith) } in
           let both = size-minus (s * left) (s * e) (multiple (pos s) h) _ (size-multiple s left h size) estimated.near in
-          let whole : IsOfSize (s * left + s * e) (multiple (pos 41472) g) = rw (channel_law (multiple (pos s) h) (multiple (pos 41472) g)) at both in
+          let whole : IsOfSize (s * left + s * e) (multiple (pos 41472) g) = rw (minus_minus (multiple (pos s) h) (multiple (pos 41472) g)) at both in
           let most = size_to_nat (pos 41472 *ℤ g.re) (pos 41472 *ℤ g.im) (s * left + s * e) whole.size in
           absurd (too_small (s * left + s * e) 41472 least (squared_size g) (omega (arith, most, squared_multiple 41472 g)) (least_squared least g large) enough)
       | inr past ↦ record { size = rw (squared_size_is h) (pos-le (left * left) (squared_size h) past) }

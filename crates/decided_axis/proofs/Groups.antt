@@ -1,19 +1,16 @@
 -- A symbol's decisions, from those of each data number.
-use Rattle.std.proofs.Common.{◌≡◌, ℕ, ◌+◌, ◌*◌, ◌/◌, ◌%◌, ◌<◌, ◌≤◌, List, length, take, drop, slice_index, refl, ap, sym, ◌∙◌, inl, inr, arith}
+use Rattle.std.proofs.Common.{◌≡◌, ℕ, ◌+◌, ◌*◌, ◌/◌, ◌%◌, ◌<◌, ◌≤◌, List, length, take, drop, slice_index, ap, sym, ◌∙◌, inl, inr, arith}
 use Rattle.std.proofs.Math.Nat.{mul-le-mul_left}
 use Rattle.std.proofs.lemmas.Bool.{cases_lt}
 use Rattle.std.proofs.lemmas.List.{get_or-drop, get_or-take, take_all}
+use Rattle.bit_lists.proofs.ByPlace.{take-by_place}
 use Rattle.fixed_complex.specs.declared.Cx.{Cx}
 use Rattle.rate_table.specs.declared.Rate.{Rate}
-use Rattle.rate_table.specs.Table.{bits_of_modulation, row_of}
-use Rattle.rate_table.proofs.ByRate.{by_rate, coded_bits_by_modulation}
+use Rattle.rate_table.specs.Table.{row_of}
+use Rattle.rate_table.proofs.ByRate.{by_rate, coded_bits_by_modulation, width_is}
 use Rattle.carrier_equaliser.specs.Decided.{decided_at, decision_at, interleaved_decisions}
-use Rattle.carrier_equaliser.proofs.Places.{take-filled}
 
--- N_BPSC of a rate
-pub width_is : (rate : Rate) → (row_of rate).bits_per_carrier ≡ bits_of_modulation (row_of rate).modulation
-width_is = by_rate (λ rate. (row_of rate).bits_per_carrier ≡ bits_of_modulation (row_of rate).modulation) refl refl refl refl refl refl refl refl
-
+-- a carrier has coded bits
 pub width_above : (rate : Rate) → 0 < (row_of rate).bits_per_carrier
 width_above = by_rate (λ rate. 0 < (row_of rate).bits_per_carrier) (omega arith) (omega arith) (omega arith) (omega arith) (omega arith) (omega arith) (omega arith) (omega arith)
 
@@ -45,5 +42,5 @@ groups_joined rate estimate symbol bits long same =
     let width = (row_of rate).bits_per_carrier in
     let size = (row_of rate).coded_bits in
     let count : size ≡ 48 * width = coded_bits_by_modulation rate ∙ ap (λ w. 48 * w) (sym (width_is rate)) in
-    sym (take-filled (decision_at rate estimate symbol) size bits (omega (arith, long)) (by_group (decided_at rate estimate symbol) bits width size (width_above rate) count same))
+    sym (take-by_place (decision_at rate estimate symbol) size bits (omega (arith, long)) (by_group (decided_at rate estimate symbol) bits width size (width_above rate) count same))
     ∙ take_all size bits (omega (arith, long))

@@ -1,7 +1,6 @@
 -- The sizes of points, and the groups of bits that points near them give back.
-use Rattle.std.proofs.Common.{◌≡◌, ℕ, ◌+◌, ◌≤◌, List, ◌++◌, length, take, drop, replicate, refl, ap, sym, ◌∙◌, append_assoc, arith, length-drop, unsigned_abs, pos}
+use Rattle.std.proofs.Common.{◌≡◌, ℕ, ◌+◌, ◌≤◌, List, ◌++◌, length, take, drop, replicate, ap, sym, ◌∙◌, append_assoc, arith, length-drop, pos}
 use Rattle.std.proofs.Math.Seq.{take-add}
-use Rattle.std.proofs.lemmas.Bool.{leb-true}
 use Rattle.std.proofs.lemmas.List.{length-take-le, take-append-le, take_all}
 use Rattle.std.proofs.lemmas.List.Elements.{All-drop, All-take}
 use Rattle.integer_laws.proofs.Sizes.{size_of_parts}
@@ -11,32 +10,13 @@ use Rattle.fixed_complex.specs.Pairs.{IsOfSize}
 use Rattle.rate_table.specs.declared.Modulation.{Modulation}
 use Rattle.rate_table.specs.declared.Modulation.TheVariants.{Bpsk, Qpsk, Qam16, Qam64}
 use Rattle.rate_table.specs.Table.{bits_of_modulation}
-use Rattle.constellations.specs.Axes.{axis_of, axis_width, place_of}
 use Rattle.constellations.specs.Decisions.{IsNear, axis_decided, decided}
 use Rattle.constellations.specs.Points.{point_of}
-use Rattle.constellations.proofs.BitCases.{one_bit, three_bits, two_bits}
+use Rattle.constellations.proofs.AxisSizes.{axis_size}
 use Rattle.constellations.proofs.Nearness.{gives_back}
 use Rattle.decided_axis.specs.Channels.{size_of_point}
 
 -- ---- sizes
--- no axis of a modulation is larger
-abbrev size_of_axis : Modulation → ℕ
-size_of_axis Bpsk = 648
-size_of_axis Qpsk = 458
-size_of_axis Qam16 = 615
-size_of_axis Qam64 = 700
-
-abbrev IsSmall : Modulation → List ℕ → Type 0
-IsSmall modulation bits = unsigned_abs (axis_of modulation bits) ≤ size_of_axis modulation
-
-axis_size : (modulation : Modulation) (bits : List ℕ) → AreBits bits → length bits ≡ axis_width modulation → IsSmall modulation bits
-unfolding axis_of place_of
-axis_size Bpsk = one_bit (IsSmall Bpsk) (leb-true _ _ refl) (leb-true _ _ refl)
-axis_size Qpsk = one_bit (IsSmall Qpsk) (leb-true _ _ refl) (leb-true _ _ refl)
-axis_size Qam16 = two_bits (IsSmall Qam16) (leb-true _ _ refl) (leb-true _ _ refl) (leb-true _ _ refl) (leb-true _ _ refl)
-axis_size Qam64 =
-    three_bits (IsSmall Qam64) (leb-true _ _ refl) (leb-true _ _ refl) (leb-true _ _ refl) (leb-true _ _ refl) (leb-true _ _ refl) (leb-true _ _ refl) (leb-true _ _ refl) (leb-true _ _ refl)
-
 -- the bits of an axis among those of a group
 front : (width : ℕ) (group : List ℕ) → AreBits group → AreBits (take width group)
 front width group are = All-take IsBit width group are

@@ -13,7 +13,7 @@ use Rattle.fixed_complex.specs.PairLists.{entry}
 use Rattle.fixed_complex.proofs.PairLists.{entry-map}
 use Rattle.rate_table.specs.declared.Rate.{Rate}
 use Rattle.rate_table.specs.Table.{bits_of_modulation, row_of}
-use Rattle.rate_table.proofs.ByRate.{coded_bits_by_modulation}
+use Rattle.rate_table.proofs.ByRate.{coded_bits_by_modulation, width_is}
 use Rattle.interleave_two.specs.Place.{deinterleaved, interleaved, source_of}
 use Rattle.interleave_two.proofs.ByPlace.{deinterleaved-interleaved}
 use Rattle.carrier_bins.specs.Carriers.{bin_of, data_carrier_of}
@@ -21,7 +21,7 @@ use Rattle.symbol_builder.specs.Points.{point_at, points_of, points_of_code}
 use Rattle.carrier_equaliser.specs.Decided.{decided_at, interleaved_decisions}
 use Rattle.decided_axis.specs.Channels.{Allows, IsOver}
 use Rattle.decided_axis.specs.Laws.{SymbolDecided, data_bin}
-use Rattle.decided_axis.proofs.Groups.{groups_joined, width_is}
+use Rattle.decided_axis.proofs.Groups.{groups_joined}
 use Rattle.decided_axis.proofs.Rightly.{decided_rightly}
 
 -- the bin of a data number is below 64

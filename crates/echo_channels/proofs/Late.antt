@@ -1,5 +1,6 @@
 -- A body that comes late: behind its cyclic prefix it is the body with each of its carriers turned back.
 use Rattle.std.proofs.Common.{◌≡◌, ℕ, ◌+◌, ◌-◌, ◌*◌, ◌≤◌, refl, ap, sym, ◌∙◌, arith, ℤ, pos, ◌+ℤ◌, ◌-ℤ◌, ◌*ℤ◌, neg_ℤ}
+use Rattle.std.proofs.Math.IntN.{+ℤ_comm}
 use Rattle.integer_laws.proofs.Ring.{negated, ring, ◌⊕◌, ◌⊖◌, ◌⊗◌, ◌≗◌}
 use Rattle.fixed_complex.specs.declared.Cx.{Cx}
 use Rattle.fixed_complex.specs.Laws.{sum_below}
@@ -14,10 +15,7 @@ use Rattle.butterfly64.specs.PlainSums.{plain_down}
 use Rattle.plain_waves.specs.Bodies.{plain_body}
 
 swapped_sum : (a b : Cx) → plus a b ≡ plus b a
-swapped_sum a b = same_parts _ _ (law a.re b.re) (law a.im b.im)
-  where
-    law : (a b : ℤ) → a +ℤ b ≡ b +ℤ a
-    law = ring 2 (λ a b. a ⊕ b ≗ b ⊕ a) refl
+swapped_sum a b = same_parts _ _ (+ℤ_comm a.re b.re) (+ℤ_comm a.im b.im)
 
 -- the body is the same 64 places further
 turns_on : (d n : ℕ) → turn_at (d * (n + 64)) ≡ turn_at (d * n)

@@ -1,16 +1,15 @@
 -- The sizes of channels and of echoed bodies.
-use Rattle.std.proofs.Common.{◌≡◌, ℕ, ◌+◌, ◌-◌, ◌*◌, ◌^◌, ◌≤◌, List, refl, sym, subst, inl, inr, arith, ℤ, pos, ◌-ℤ◌, unsigned_abs}
+use Rattle.std.proofs.Common.{◌≡◌, ℕ, ◌+◌, ◌-◌, ◌*◌, ◌^◌, ◌≤◌, List, refl, sym, subst, inl, inr, arith, pos, unsigned_abs}
 use Rattle.std.proofs.lemmas.Bool.{cases_lt}
 use Rattle.integer_laws.proofs.Order.{le_of_pos-le, pos-le}
-use Rattle.integer_laws.proofs.Ring.{ring, ◌⊖◌, ◌≗◌}
 use Rattle.integer_laws.proofs.Sizes.{size_of_nat, size_to_nat, sum_of_squares-scaled, sum_of_squares_is}
 use Rattle.fixed_complex.specs.declared.Cx.{Cx}
 use Rattle.fixed_complex.specs.PairLists.{entry}
 use Rattle.fixed_complex.specs.Pairs.{IsOfSize, IsWithin, conjugate, minus, times, IsAtLeastOfSize}
 use Rattle.fixed_complex.specs.Turns.{turn_at}
 use Rattle.fixed_complex.proofs.PairLists.{entry-map}
-use Rattle.fixed_complex.proofs.Pairs.{same_parts}
 use Rattle.fixed_complex.proofs.PairSizes.{size-conjugate, size-minus, size-multiple, wider}
+use Rattle.fixed_complex.proofs.Sums.{minus_minus}
 use Rattle.fixed_complex.proofs.TurnLaws.{turn-size}
 use Rattle.plain_waves.specs.Bodies.{all_times, plain_body}
 use Rattle.plain_waves.proofs.Loads.{plain_within}
@@ -40,19 +39,13 @@ first_is : (taps : List Cx) (bin : ℕ) → IsEcho taps → times (entry taps 0)
 unfolding times turn_at
 first_is taps bin echo = let none : bin * 0 ≡ 0 = omega arith in rw (echo.main, none) refl
 
-back_to_first : (g : Cx) → minus g (minus g first) ≡ first
-back_to_first g = same_parts _ _ (law g.re (pos 1073741824)) (law g.im (pos 0))
-  where
-    law : (g a : ℤ) → g -ℤ (g -ℤ a) ≡ a
-    law = ring 2 (λ g a. g ⊖ (g ⊖ a) ≗ a) refl
-
 beside_first : (taps : List Cx) (bin : ℕ) → IsEcho taps → IsOfSize (256 * 1048577) (minus (channel_of taps bin) first)
 beside_first taps bin echo =
     subst (λ a. IsOfSize (256 * 1048577) (minus (channel_of taps bin) a)) (first_is taps bin echo) (echo_beside_first taps 1048577 (λ late. conjugate (turn_at (bin * late))) echo (back_size bin))
 
 not_less : (g : Cx) → IsOfSize (256 * 1048577) (minus g first) → IsOfSize 805306111 g → ⊥
 not_less g others small =
-    let both : IsOfSize (805306111 + 256 * 1048577) first = subst (IsOfSize (805306111 + 256 * 1048577)) (back_to_first g) (size-minus 805306111 (256 * 1048577) g (minus g first) small others) in
+    let both : IsOfSize (805306111 + 256 * 1048577) first = subst (IsOfSize (805306111 + 256 * 1048577)) (minus_minus g first) (size-minus 805306111 (256 * 1048577) g (minus g first) small others) in
     omega (arith, size_to_nat (pos 1073741824) (pos 0) (805306111 + 256 * 1048577) both.size)
 
 pub channel_large : (taps : List Cx) (bin : ℕ) → IsEcho taps → IsAtLeastOfSize 805306111 (channel_of taps bin)

@@ -1,5 +1,5 @@
 -- A tap, its delay and its two numbers: their texts and places.
-use Rattle.std.proofs.Common.{ℕ, ◌+◌, ◌-◌, ◌<◌, ◌≤◌, ◌≡◌, ◌≢◌, ◌⊎◌, List, ◌∷◌, ◌++◌, ℤ, pos, unsigned_abs, inl, inr, refl, sym, ap, ◌∙◌, subst, arith}
+use Rattle.std.proofs.Common.{ℕ, ◌+◌, ◌-◌, ◌<◌, ◌≤◌, ◌≡◌, ◌≢◌, ◌⊎◌, List, ◌∷◌, ℤ, pos, unsigned_abs, inl, inr, refl, sym, ◌∙◌, subst, arith}
 use Rattle.std.proofs.lemmas.Fmt.{decimal_injective}
 use Rattle.std.proofs.lemmas.Int.{ints}
 use Rattle.std.specs.Fmt.{decimal, signed_decimal}
@@ -12,14 +12,10 @@ use Rattle.word_grammar.specs.Places.{IsBadAt, IsDecided}
 use Rattle.word_grammar.specs.Signs.{IsSigned, SaysSigned}
 use Rattle.word_grammar.proofs.Decided.{decided_number, decided_pair, decided_signed}
 use Rattle.word_grammar.proofs.Digits.{digits_bare, number_bare}
-use Rattle.word_grammar.proofs.Marks.{bare_append, seam}
+use Rattle.word_grammar.proofs.Marks.{bare_append, joined, seam}
 use Rattle.word_grammar.proofs.Pairs.{AreWords}
 use Rattle.word_grammar.proofs.Places.{bad_same}
 use Rattle.word_grammar.proofs.Signs.{same_signed, signed_bare}
-
--- two words with a space between
-pub joined : (a b c d : List ℕ) → a ≡ b → c ≡ d → a ++ 32 ∷ c ≡ b ++ 32 ∷ d
-joined a b c d e f = ap (λ x. x ++ 32 ∷ c) e ∙ ap (λ x. b ++ 32 ∷ x) f
 
 -- a number is in a range by its size
 pub says_signed : (most : ℕ) (z : ℤ) → unsigned_abs z ≤ most → SaysSigned most most z (signed_decimal z)

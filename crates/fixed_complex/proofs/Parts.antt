@@ -7,7 +7,7 @@ use Rattle.fixed_complex.specs.Rounding.{half_up}
 abbrev pub held : ℤ → ℤ
 held z = to_z w64 (of_z w64 z)
 
-held_is : (z : ℤ) → unsigned_abs z ≤ 2 ^ 62 → held z ≡ z
+pub held_is : (z : ℤ) → unsigned_abs z ≤ 2 ^ 62 → held z ≡ z
 held_is z small = omega (arith, ints)
 
 held_product : (a b : ℤ) → unsigned_abs a ≤ 2 ^ 40 → unsigned_abs b ≤ 2 ^ 40 → held a *ℤ held b ≡ a *ℤ b

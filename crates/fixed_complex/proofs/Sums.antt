@@ -1,12 +1,14 @@
 -- Sums of pairs over places, and identities of sums and products.
 use Rattle.std.proofs.Common.{◌≡◌, ℕ, zero, suc, ◌+◌, ◌*◌, refl, ap, sym, ◌∙◌, arith, ◌<◌}
 use Rattle.std.specs.Prelude.{ℤ, pos, ◌+ℤ◌, ◌-ℤ◌, ◌*ℤ◌}
+use Rattle.std.proofs.Math.IntN.{*ℤ-zero, +ℤ_idr, -ℤ-+ℤ_cancel}
 use Rattle.std.proofs.lemmas.Int.{ints}
 use Rattle.fixed_complex.specs.declared.Cx.{Cx}
 use Rattle.fixed_complex.specs.Laws.{sum_below}
 use Rattle.fixed_complex.specs.Pairs.{IsOfSize, IsWithin, zero_pair, plus, minus, multiple, times}
 use Rattle.integer_laws.proofs.Ring.{ring, number, ◌⊕◌, ◌⊖◌, ◌⊗◌, ◌≗◌}
 use Rattle.integer_laws.proofs.Order.{pos-le}
+use Rattle.integer_laws.proofs.Products.{*ℤ-+ℤ}
 use Rattle.fixed_complex.proofs.PairSizes.{wider, size-plus}
 use Rattle.fixed_complex.proofs.Pairs.{same_parts}
 
@@ -23,11 +25,17 @@ sum_of_differences a b c d = same_parts _ _ (law a.re b.re c.re d.re) (law a.im 
     law : (a b c d : ℤ) → (a -ℤ b) +ℤ (c -ℤ d) ≡ (a +ℤ c) -ℤ (b +ℤ d)
     law = ring 4 (λ a b c d. (a ⊖ b) ⊕ (c ⊖ d) ≗ (a ⊕ c) ⊖ (b ⊕ d)) refl
 
-pub plus_zero : (a : Cx) → plus a zero_pair ≡ a
-plus_zero a = same_parts _ _ (law a.re) (law a.im)
+pub minus_plus : (a b : Cx) → plus (minus a b) b ≡ a
+minus_plus a b = same_parts _ _ (-ℤ-+ℤ_cancel a.re b.re) (-ℤ-+ℤ_cancel a.im b.im)
+
+pub minus_minus : (a b : Cx) → minus a (minus a b) ≡ b
+minus_minus a b = same_parts _ _ (law a.re b.re) (law a.im b.im)
   where
-    law : (a : ℤ) → a +ℤ pos 0 ≡ a
-    law = ring 1 (λ a. a ⊕ number (pos 0) ≗ a) refl
+    law : (a b : ℤ) → a -ℤ (a -ℤ b) ≡ b
+    law = ring 2 (λ a b. a ⊖ (a ⊖ b) ≗ b) refl
+
+pub plus_zero : (a : Cx) → plus a zero_pair ≡ a
+plus_zero a = same_parts _ _ (+ℤ_idr a.re) (+ℤ_idr a.im)
 
 pub zero_plus : (a : Cx) → plus zero_pair a ≡ a
 zero_plus a = same_parts _ _ (law a.re) (law a.im)
@@ -66,16 +74,10 @@ zero_times w = same_parts _ _ (re w.re w.im) (im w.re w.im)
     im = ring 2 (λ p q. number (pos 0) ⊗ q ⊕ number (pos 0) ⊗ p ≗ number (pos 0)) refl
 
 multiple_plus : (c : ℤ) (a b : Cx) → multiple c (plus a b) ≡ plus (multiple c a) (multiple c b)
-multiple_plus c a b = same_parts _ _ (law c a.re b.re) (law c a.im b.im)
-  where
-    law : (c a b : ℤ) → c *ℤ (a +ℤ b) ≡ c *ℤ a +ℤ c *ℤ b
-    law = ring 3 (λ c a b. c ⊗ (a ⊕ b) ≗ c ⊗ a ⊕ c ⊗ b) refl
+multiple_plus c a b = same_parts _ _ (*ℤ-+ℤ c a.re b.re) (*ℤ-+ℤ c a.im b.im)
 
 pub multiple_zero : (c : ℤ) → multiple c zero_pair ≡ zero_pair
-multiple_zero c = same_parts _ _ (law c) (law c)
-  where
-    law : (c : ℤ) → c *ℤ pos 0 ≡ pos 0
-    law = ring 1 (λ c. c ⊗ number (pos 0) ≗ number (pos 0)) refl
+multiple_zero c = same_parts _ _ (*ℤ-zero c) (*ℤ-zero c)
 
 -- ---- sums over places
 -- a sum that grows place by place, and a bound on its components

@@ -1,8 +1,8 @@
 -- A frame that was begun, and one symbol more.
-use Rattle.std.proofs.Common.{◌≡◌, ℕ, suc, ◌+◌, ◌++◌, ◌∷◌, [], List, length, ap, sym, ◌∙◌, arith}
-use Rattle.std.proofs.lemmas.List.{append-nil, flat_map_more, map-id}
-use Rattle.std.proofs.lemmas.List.FromFn.{map-range_with_len_more}
+use Rattle.std.proofs.Common.{◌≡◌, ℕ, suc, ◌+◌, ◌++◌, List, length, ap, sym, ◌∙◌, arith}
+use Rattle.std.proofs.lemmas.List.{append-nil, flat_map_more}
 use Rattle.std.specs.List.{flat_map, range_with_len}
+use Rattle.bit_lists.proofs.ByPlace.{one_place_more}
 use Rattle.fixed_complex.specs.declared.Cx.{Cx}
 use Rattle.fixed_complex.specs.declared.Sample.{Sample}
 use Rattle.data_field.specs.Stages.{kept_at}
@@ -16,11 +16,6 @@ use Rattle.symbol_builder.specs.Points.{points_of_code}
 use Rattle.plain_waves.specs.Bodies.{sent_body}
 use Rattle.training_fields.specs.Training.{preamble_of}
 use Rattle.frame_fields.specs.Frames.{frame_of, frame_points, frame_symbol, signal_code}
-
-pub one_more : (n : ℕ) → range_with_len 0 (n + 1) ≡ range_with_len 0 n ++ n ∷ []
-one_more n =
-    sym (map-id (range_with_len 0 (n + 1))) ∙ map-range_with_len_more (λ k. k) 0 n n (omega arith)
-    ∙ ap (λ places. places ++ n ∷ []) (map-id (range_with_len 0 n))
 
 -- the preamble, and the symbols below n behind it
 unfoldable pub begun_frame : {A : Type 0} → ((ℕ → Cx) → ℕ → A) → Rate → ℕ → List ℕ → ℕ → List A
@@ -43,7 +38,7 @@ pub one_symbol_more : {A : Type 0} (body : (ℕ → Cx) → ℕ → A) (rate : R
 unfolding begun_frame
 one_symbol_more body rate seed psdu n =
     flat_map_more (frame_symbol body rate seed psdu) (preamble_of body) (range_with_len 0 n) n
-    ∙ sym (ap (λ places. preamble_of body ++ flat_map (frame_symbol body rate seed psdu) places) (one_more n))
+    ∙ sym (ap (λ places. preamble_of body ++ flat_map (frame_symbol body rate seed psdu) places) (one_place_more 0 n n (omega arith)))
 
 -- with all symbols it is the frame
 pub all_symbols : {A : Type 0} (body : (ℕ → Cx) → ℕ → A) (rate : Rate) (seed : ℕ) (psdu : List ℕ) (n : ℕ) → n ≡ symbol_count (row_of rate).field_bits (length psdu)

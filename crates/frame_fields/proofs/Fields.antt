@@ -12,7 +12,7 @@ use Rattle.kept_weights.specs.Weights.{distance_over}
 use Rattle.kept_weights.proofs.Fronts.{distance_over-take}
 use Rattle.kept_weights.proofs.StepWeights.{length-kept_code}
 use Rattle.ofdm_scrambler.specs.Sequence.{IsSeed, scrambled, scrambler_bit, scrambler_sequence}
-use Rattle.ofdm_scrambler.proofs.LastSeven.{AreBits-scrambled, IsBit-scrambler_bit}
+use Rattle.ofdm_scrambler.proofs.LastSeven.{AreBits-scrambled, IsBit-scrambler_bit, scrambled_at}
 use Rattle.puncture_map.specs.Kept.{kept_count, kept_code}
 use Rattle.puncture_map.proofs.Counts.{kept_count-symbols}
 use Rattle.puncture_map.proofs.Ranks.{kept_count-rises}
@@ -84,11 +84,6 @@ plain_psdu field_bits psdu i within =
     let pad : List ℕ = replicate (field_length field_bits (length psdu) - tail_place (length psdu)) 0 in
     get_or-append-add (replicate 16 0) (bits_of_octets psdu ++ pad) i 0
     ∙ get_or_append_left (bits_of_octets psdu) pad 0 i (omega (arith, length-bits_of_octets psdu))
-
--- a bit of a scrambled list
-scrambled_at : (number : ℕ) (bits : List ℕ) (k : ℕ) → k < length bits → get_or (scrambled number bits) k 0 ≡ exclusive_or (get_or bits k 0) (scrambler_bit number k)
-scrambled_at number bits k within =
-    get_or-map-range_with_len (λ n. exclusive_or (get_or bits n 0) (scrambler_bit number n)) 0 (length bits) k k 0 within (omega arith)
 
 -- the bits of a field up to the end of its tail
 abbrev pub field_front : ℕ → ℕ → List ℕ → List ℕ

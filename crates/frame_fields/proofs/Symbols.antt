@@ -6,7 +6,7 @@ use Rattle.std.proofs.lemmas.Bool.{cases_lt}
 use Rattle.std.proofs.lemmas.List.{drop-drop, flat_map_more, length-drop}
 use Rattle.std.specs.List.{flat_map, range_with_len}
 use Rattle.interleave_two.specs.Place.{symbol_bits}
-use Rattle.frame_fields.proofs.Begun.{one_more}
+use Rattle.bit_lists.proofs.ByPlace.{one_place_more}
 use Rattle.rate_table.proofs.ByRate.{by_rate}
 use Rattle.rate_table.specs.declared.Rate.{Rate}
 use Rattle.rate_table.specs.Table.{row_of}
@@ -62,7 +62,7 @@ pub symbol_appended : {A : Type 0} (of_symbol : List ℕ → List A) (rate : Rat
 symbol_appended {A} of_symbol rate kept symbol before after m so_far is appended =
     let at : ℕ → List A = λ m. of_symbol (symbol_bits rate kept m) in
     appended ∙ ap (λ front. front ++ of_symbol symbol) so_far ∙ ap (λ one. flat_map at (range_with_len 0 m) ++ of_symbol one) is
-    ∙ flat_map_more at [] (range_with_len 0 m) m ∙ sym (ap (flat_map at) (one_more m))
+    ∙ flat_map_more at [] (range_with_len 0 m) m ∙ sym (ap (flat_map at) (one_place_more 0 m m (omega arith)))
 
 -- a symbol has coded bits
 pub some_coded : (rate : Rate) → 0 < (row_of rate).coded_bits

@@ -7,6 +7,7 @@ use Rattle.std.specs.List.{flat_map, range_with_len}
 use Rattle.std.specs.Prelude.{slice_index}
 use Rattle.std.proofs.Math.Nat.{suc-mul}
 use Rattle.std.proofs.lemmas.List.FromFn.{length-map-range_with_len}
+use Rattle.bit_lists.proofs.ByPlace.{one_place_more}
 use Rattle.fixed_complex.specs.declared.Sample.{Sample}
 use Rattle.rate_table.specs.declared.Rate.{Rate}
 use Rattle.rate_table.specs.declared.Rate.TheVariants.{R6}
@@ -17,7 +18,6 @@ use Rattle.carrier_equaliser.specs.Decided.{interleaved_decisions}
 use Rattle.carrier_equaliser.specs.Received.{received}
 use Rattle.carrier_equaliser.specs.Estimates.{estimate_of}
 use Rattle.frame_search.specs.Match.{part}
-use Rattle.frame_fields.proofs.Begun.{one_more}
 use Rattle.frame_reader.specs.Decisions.{body_of, decisions_of, estimate_from, plain_decisions}
 use Rattle.frame_reader.specs.Frames.{HasField, Opens, data_decisions, need_of, symbols_of}
 
@@ -53,7 +53,7 @@ pub data_more : (decisions : Rate → ℕ → List ℕ) (rate : Rate) (n : ℕ) 
 unfolding data_decisions
 data_more decisions rate n =
     let symbol = λ (m : ℕ). decisions rate (m + 1) in
-    ap (flat_map symbol) (one_more n) ∙ flat_map-append symbol (range_with_len 0 n) (n ∷ [])
+    ap (flat_map symbol) (one_place_more 0 n n (omega arith)) ∙ flat_map-append symbol (range_with_len 0 n) (n ∷ [])
     ∙ ap (λ last. flat_map symbol (range_with_len 0 n) ++ last) (append-nil (decisions rate (n + 1)))
 
 -- the decisions of the first so many DATA symbols

@@ -10,7 +10,7 @@ use Rattle.frame_fields.specs.Frames.{frame_bin}
 use Rattle.frame_lists.specs.Near.{SentFrame}
 use Rattle.exact_decisions.specs.Sent.{rate_of_symbol}
 use Rattle.exact_decisions.proofs.Codes.{code_bits, code_long, same_points}
-use Rattle.symbols_in_noise.proofs.Bounds.{bound_most}
+use Rattle.rate_table.proofs.ByRate.{noise_bound_from}
 
 -- what each symbol carries fits a body
 pub frame_fit : (frame : SentFrame) (n : ℕ) → n ≤ symbol_count (row_of frame.rate).field_bits (length frame.psdu) → FitABody (frame_bin frame.rate frame.seed frame.psdu n)
@@ -19,5 +19,5 @@ frame_fit frame n sent =
     (symbol_fit _ _ n (code_bits frame.rate frame.seed frame.psdu n) (code_long frame.rate frame.seed frame.psdu n sent))
 
 pub bound_of_symbol : (rate : Rate) (bound n : ℕ) → bound ≤ (row_of rate).noise_bound → bound ≤ (row_of (rate_of_symbol rate n)).noise_bound
-bound_of_symbol rate bound zero least = omega (arith, bound_most rate)
+bound_of_symbol rate bound zero least = omega (arith, noise_bound_from rate)
 bound_of_symbol rate bound (suc m) least = least

@@ -14,9 +14,7 @@ use Rattle.frame_lists.proofs.Places.{one_waveform, others_behind, silent_up_to_
 use Rattle.frame_lists.proofs.Growing.{bounds_may_grow}
 use Rattle.frame_lists.specs.Items.{frames_from, samples_of_items}
 use Rattle.frame_lists.specs.Laws.{SentListIsNear}
-use Rattle.rate_table.specs.declared.Rate.{Rate}
-use Rattle.rate_table.specs.Table.{row_of}
-use Rattle.rate_table.proofs.ByRate.{by_rate}
+use Rattle.rate_table.proofs.ByRate.{noise_bound_from}
 use Rattle.frame_findings.proofs.Walking.{one_findings}
 use Rattle.exact_decisions.specs.Laws.{sent_header}
 use Rattle.frame_findings.specs.Walk.{HearsNext, IsChosen, NoneChosen, Walks}
@@ -135,10 +133,7 @@ pub nothing_else_is_found : NothingElseIsFound
 nothing_else_is_found capture frames heard cut are near findings = one_findings capture heard (map heard_of frames) cut None findings (noise_is_withstood capture frames are near)
 
 -- ---- frames as they are sent
-noise_allows_one : (rate : Rate) → 1 ≤ (row_of rate).noise_bound
-noise_allows_one = by_rate (λ rate. 1 ≤ (row_of rate).noise_bound) (omega arith) (omega arith) (omega arith) (omega arith) (omega arith) (omega arith) (omega arith) (omega arith)
-
 pub sent_list_is_heard : SentListIsNear → SentListIsHeard
 sent_list_is_heard sent items some gaps are =
     noise_is_withstood (samples_of_items items) (frames_from 0 items) are
-    (bounds_may_grow (λ _. 1) noise_bound_of 0 64 (samples_of_items items) (frames_from 0 items) (λ frame. noise_allows_one frame.rate) (omega arith) (sent items some gaps))
+    (bounds_may_grow (λ _. 1) noise_bound_of 0 64 (samples_of_items items) (frames_from 0 items) (λ frame. omega (arith, noise_bound_from frame.rate)) (omega arith) (sent items some gaps))

@@ -1,22 +1,16 @@
 -- Arrays that are read place by place.
-use Rattle.std.proofs.Common.{inl, inr, ◌≡◌, ℕ, zero, suc, ◌<◌, ◌≤◌, List, length, map, take, replicate, refl, slice_index, sym, ap, ◌∙◌, arith}
-use Rattle.std.specs.List.{range_with_len}
+use Rattle.std.proofs.Common.{inl, inr, ◌≡◌, ℕ, ◌<◌, ◌≤◌, List, length, take, slice_index, sym, ap, ◌∙◌, arith}
 use Rattle.std.proofs.lemmas.Bool.{cases_lt}
-use Rattle.std.proofs.lemmas.List.{length-take-le, get_or-take}
+use Rattle.std.proofs.lemmas.List.{get_or-take}
 use Rattle.std.proofs.lemmas.List.Elements.{All-from_get_or}
-use Rattle.std.proofs.lemmas.List.FromFn.{fill_by_all, length-map-range_with_len, get_or-map-range_with_len}
+use Rattle.std.proofs.lemmas.List.FromFn.{get_or-map-range_with_len}
 use Rattle.bit_lists.specs.Bits.{IsBit, AreBits}
 use Rattle.bit_lists.proofs.BitFacts.{IsBit-slice_index}
+use Rattle.bit_lists.proofs.ByPlace.{map-agree, take-by_place}
 use Rattle.rate_table.specs.declared.Rate.{Rate}
 use Rattle.rate_table.specs.Table.{row_of}
-use Rattle.rate_table.proofs.ByRate.{by_rate}
 use Rattle.interleave_two.specs.Place.{interleaved_place, source_of, interleaved, deinterleaved}
 use Rattle.interleave_two.proofs.Ways.{interleaved_place-lt, source_of-lt, source_of-interleaved_place, interleaved_place-source_of}
-
--- the front of a list whose places are known
-pub take-by_place : (f : ℕ → ℕ) (n : ℕ) (xs : List ℕ) → n ≤ length xs → ((m : ℕ) → m < n → slice_index xs m ≡ f m) → take n xs ≡ map f (range_with_len 0 n)
-take-by_place f n xs within read =
-    fill_by_all f (take n xs) n 0 (length-take-le n xs within) (λ m below. get_or-take n xs m 0 below ∙ read m below)
 
 -- what goes to its place is read back there, and the other way round
 pub deinterleaved-by_place : (rate : Rate) (bits places : List ℕ) → (row_of rate).coded_bits ≤ length bits → ((k : ℕ) → k < (row_of rate).coded_bits → slice_index places (interleaved_place rate k) ≡ slice_index bits k) → deinterleaved rate places ≡ take (row_of rate).coded_bits bits
@@ -49,22 +43,6 @@ AreBits-by_place bits from n xs are read rest =
       | inl below ↦ (let bit = IsBit-slice_index bits (from m) are in omega (arith, read m below))
       | inr past ↦ omega (arith, rest m past)
     ])
-
--- a symbol has at most 288 bits
-pub coded_bits-le : (rate : Rate) → (row_of rate).coded_bits ≤ 288
-coded_bits-le = by_rate (λ rate. (row_of rate).coded_bits ≤ 288) (omega arith) (omega arith) (omega arith) (omega arith) (omega arith) (omega arith) (omega arith) (omega arith)
-
--- an array of zeros, at any place
-pub slice_index-zeros : (n m : ℕ) → slice_index (replicate n 0) m ≡ 0
-slice_index-zeros zero m = refl
-slice_index-zeros (suc n) zero = refl
-slice_index-zeros (suc n) (suc m) = slice_index-zeros n m
-
--- two lists by place that agree at each place
-map-agree : (f g : ℕ → ℕ) (n : ℕ) → ((k : ℕ) → k < n → f k ≡ g k) → map f (range_with_len 0 n) ≡ map g (range_with_len 0 n)
-map-agree f g n same =
-    fill_by_all g (map f (range_with_len 0 n)) n 0 (length-map-range_with_len f 0 n)
-    (λ k below. get_or-map-range_with_len f 0 n k k 0 below (omega arith) ∙ same k below)
 
 -- the entries behind a symbol's play no part
 pub interleaved-take : (rate : Rate) (bits : List ℕ) → interleaved rate bits ≡ interleaved rate (take (row_of rate).coded_bits bits)

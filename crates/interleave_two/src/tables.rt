@@ -19,7 +19,7 @@ pub fn places_in_order(rate: Rate) -> &'static [u16]
     }
 }
 
-/// The places of the code whose bits go to the places of a symbol, in their order.
+/// The places of the code whose bits go to the places of a symbol, in their order (18.3.5.7).
 pub fn sources_in_order(rate: Rate) -> &'static [u16]
     ensures long { length result.now ≡ (row_of rate).coded_bits }
     ensures sources { (j : ℕ) → j < (row_of rate).coded_bits

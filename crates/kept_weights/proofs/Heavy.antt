@@ -10,6 +10,7 @@ use Rattle.conv_code.specs.Code.{earlier}
 use Rattle.conv_code.specs.States.{state_before}
 use Rattle.conv_code.proofs.Inputs.{earlier_before, earlier_inside, state_before-lt, state_before-more}
 use Rattle.puncture_map.specs.Kept.{period_of}
+use Rattle.puncture_map.proofs.Periods.{walked}
 use Rattle.survivor_memory.specs.Nearest.{IsClosed}
 use Rattle.kept_weights.specs.Weights.{kept_weight, least_weight}
 use Rattle.kept_weights.specs.Potentials.{next_phase, potential_of}
@@ -32,13 +33,7 @@ state_zero u n zeros =
     ] in
     rw (at 1 (omega arith) (omega arith), at 2 (omega arith) (omega arith), at 3 (omega arith) (omega arith), at 4 (omega arith) (omega arith), at 5 (omega arith) (omega arith), at 6 (omega arith) (omega arith))
 
--- the phase of a place is below the period
-phase_below : (rate : CodeRate) (i : ℕ) → i % period_of rate < period_of rate
-phase_below Half i = omega arith
-phase_below TwoThirds i = omega arith
-phase_below ThreeQuarters i = omega arith
-
--- and that of the next place is the next phase
+-- the phase of the next place is the next phase
 phase_more : (rate : CodeRate) (i : ℕ) → next_phase rate (i % period_of rate) ≡ suc i % period_of rate
 phase_more Half i = omega arith
 phase_more TwoThirds i = omega arith
@@ -53,7 +48,7 @@ heavy_more : (rate : CodeRate) (u : List ℕ) (n : ℕ) → AreBits u → IsBit 
 heavy_more rate u n bits bit heavy =
     let next : suc n ≡ n + 1 = omega arith in
     let along = branch_weight_along rate u n bits in
-    let falls = (each_is_potential rate).branches (n % period_of rate) (state_before u n) (slice_index u n) (phase_below rate n) (state_before-lt u n bits) bit in
+    let falls = (each_is_potential rate).branches (n % period_of rate) (state_before u n) (slice_index u n) (walked rate n 0 0).rest (state_before-lt u n bits) bit in
     let falls_there = rw (along, phase_more rate n, state_before-more u n bits, ← next) at falls in
     omega arith
 
@@ -63,7 +58,7 @@ heavy_first rate u n bits one start =
     let next : suc n ≡ n + 1 = omega arith in
     let along = rw (start, one) at (branch_weight_along rate u n bits) in
     let after : 1 ≡ state_before u (suc n) = rw (start, one, ← next) at (state_before-more u n bits) in
-    let first = (each_is_potential rate).first_one (n % period_of rate) (phase_below rate n) in
+    let first = (each_is_potential rate).first_one (n % period_of rate) (walked rate n 0 0).rest in
     let first_there = rw (along, phase_more rate n) at first in
     let there : potential_of rate (suc n % period_of rate) 1 ≡ potential_of rate (suc n % period_of rate) (state_before u (suc n)) = ap (potential_of rate (suc n % period_of rate)) after in
     omega arith
@@ -103,7 +98,7 @@ closed_is_heavy rate n u closed =
       | inl zeros ↦ inl zeros
       | inr heavy ↦
           let ends : state_before u n ≡ 0 = state_zero u n closed.tail in
-          let none = (each_is_potential rate).state_zero (n % period_of rate) (phase_below rate n) in
+          let none = (each_is_potential rate).state_zero (n % period_of rate) (walked rate n 0 0).rest in
           let at_the_end = rw (ends, none) at heavy in
           let weight : kept_weight rate u ≡ sum_below (step_weight rate u) n = kept_weight-by_steps rate u ∙ ap (sum_below (step_weight rate u)) closed.long in
           inr (omega arith)

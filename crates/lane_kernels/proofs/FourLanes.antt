@@ -12,7 +12,7 @@ use mir.Val.{Fits}
 use Rattle.lane_kernels.specs.Lanes.{four, total_below, total_of}
 use Rattle.fixed_complex.specs.Numbers.{NumbersWithin, number_at}
 use Rattle.integer_laws.proofs.FewPlaces.{at_four}
-use Rattle.lane_kernels.proofs.LaneSums.{kept, kept-is}
+use Rattle.lane_kernels.proofs.LaneSums.{kept, kept-is, pos-sum}
 use Rattle.lane_kernels.proofs.Totals.{total-one}
 
 -- a list of four is one entry for each lane
@@ -79,9 +79,6 @@ at-four s f n long is below at = sym (get_or-map pos s n 0 (pos 0) (omega arith)
 word-fits : (a b : ℕ) (x y : ℤ) → pos a ≡ x → pos b ≡ y → (x +ℤ y) ≤ℤ pos 4294967295 → Fits w32 (a + b)
 word-fits a b x y d e h = record { fits = omega (arith, ints) }
 
-word-is : (a b : ℕ) (x y : ℤ) → pos a ≡ x → pos b ≡ y → pos (a + b) ≡ x +ℤ y
-word-is a b x y d e = omega (arith, ints)
-
 pub words_fit : (s m : List ℕ) (f g : ℕ → ℤ) → length s ≡ 4 → length m ≡ 4 → map pos s ≡ four f → map pos m ≡ four g → ((n : ℕ) → n < 4 → (f n +ℤ g n) ≤ℤ pos 4294967295) → Each2 (Asks2 (add unsigned) (s_int w32) (s_int w32)) s m
 words_fit s m f g s_long m_long s_is m_is h =
     let one = λ (n : ℕ) (below : n < 4) (at_f : number_at (four f) n ≡ f n) (at_g : number_at (four g) n ≡ g n).
@@ -93,7 +90,7 @@ words_fit s m f g s_long m_long s_is m_is h =
 pub words_are : (s m : List ℕ) (f g : ℕ → ℤ) → length s ≡ 4 → length m ≡ 4 → map pos s ≡ four f → map pos m ≡ four g → map pos (zip2 (act2 (add unsigned) (s_int w32) (s_int w32) (s_int w32)) s m) ≡ four (λ n. f n +ℤ g n)
 words_are s m f g s_long m_long s_is m_is =
     let one = λ (n : ℕ) (below : n < 4) (at_f : number_at (four f) n ≡ f n) (at_g : number_at (four g) n ≡ g n).
-    word-is (get_or s n 0) (get_or m n 0) (f n) (g n) (at-four s f n s_long s_is below at_f) (at-four m g n m_long m_is below at_g) in
+    pos-sum (get_or s n 0) (get_or m n 0) (f n) (g n) (at-four s f n s_long s_is below at_f) (at-four m g n m_long m_is below at_g) in
     let e0 = one 0 (omega arith) refl refl in
     let e1 = one 1 (omega arith) refl refl in
     let e2 = one 2 (omega arith) refl refl in

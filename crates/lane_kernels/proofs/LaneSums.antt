@@ -1,5 +1,5 @@
 -- Eight lanes, and numbers of 64 bits as the code keeps them.
-use Rattle.std.proofs.Common.{◌≡◌, ℕ, ◌^◌, ◌<◌, ◌≤◌, List, [], ◌∷◌, length, Bool, true, false, cond, ℤ, ◌+ℤ◌, ◌*ℤ◌, to_z, of_z, w64, refl, ap, ◌∙◌, arith}
+use Rattle.std.proofs.Common.{◌≡◌, ℕ, ◌+◌, ◌^◌, ◌<◌, ◌≤◌, List, [], ◌∷◌, length, Bool, true, false, cond, ℤ, pos, ◌+ℤ◌, ◌*ℤ◌, to_z, of_z, w64, refl, ap, ◌∙◌, arith}
 use Rattle.std.specs.Prelude.{unsigned_abs}
 use Rattle.std.specs.Simd.Lanes.{zip2}
 use Rattle.std.proofs.lemmas.Int.{ints, to_z-of_z, fits_signed_from_abs, unsigned_abs-mul}
@@ -37,6 +37,10 @@ kept z = to_z w64 (of_z w64 z)
 
 pub kept-is : (z : ℤ) (bound : ℕ) → unsigned_abs z ≤ bound → bound < 2 ^ 63 → kept z ≡ z
 kept-is z bound h small = to_z-of_z w64 z (fits_signed_from_abs w64 z (omega arith))
+
+-- the sum of the numbers of two words
+pub pos-sum : (m n : ℕ) (a b : ℤ) → pos m ≡ a → pos n ≡ b → pos (m + n) ≡ a +ℤ b
+pos-sum m n a b d e = omega (arith, ints)
 
 -- a product of 16-bit numbers
 pub product-le : (a b : ℤ) → unsigned_abs a ≤ 2 ^ 15 → unsigned_abs b ≤ 2 ^ 15 → unsigned_abs (a *ℤ b) ≤ 2 ^ 30

@@ -1,5 +1,6 @@
 -- Products of numbers of 16 bits in lanes of 32 bits, and sums of neighbours.
 use Rattle.std.proofs.Common.{◌≡◌, ℕ, suc, ◌+◌, ◌*◌, ◌<◌, List, [], ◌∷◌, ◌++◌, map, length, replicate, ℤ, pos, ◌+ℤ◌, ◌*ℤ◌, ◌≤ℤ◌, to_z, of_z, w32, refl, sym, ap, subst, ◌∙◌, nat_abs, negsuc, T, arith}
+use Rattle.std.proofs.Math.IntN.{*ℤ-zero}
 use Rattle.std.specs.Prelude.{FitsSigned}
 use Rattle.std.specs.Simd.Lanes.{zip2, Each1, Each2, pick_l}
 use Rattle.std.proofs.lemmas.Int.{ints, to_z-of_z}
@@ -11,9 +12,10 @@ use lib.Signed.{non_neg}
 use Rattle.lane_kernels.specs.Lanes.{AreOf16Bits, AreProducts, AreSquares, IsProduct, IsSquare, eight, four}
 use Rattle.fixed_complex.specs.Numbers.{number_at}
 use Rattle.lane_kernels.proofs.Bounds.{product-bounds}
-use Rattle.lane_kernels.proofs.LaneSums.{eight_of}
+use Rattle.lane_kernels.proofs.LaneSums.{eight_of, pos-sum}
 use Rattle.lane_kernels.proofs.Totals.{eight-each}
 use Rattle.integer_laws.proofs.FewPlaces.{at_four}
+use Rattle.integer_laws.proofs.Products.{*ℤ_one}
 
 -- a number of 16 bits in a lane of 32
 abbrev wide_lane : ℤ → ℤ
@@ -179,9 +181,6 @@ abs-square z h =
 squares-fit : (m n : ℕ) (a b : ℤ) → pos m ≡ a → pos n ≡ b → IsSquare a → IsSquare b → Fits w32 (m + n)
 squares-fit m n a b d e h k = record { fits = omega (arith, ints, h.high, k.high) }
 
-squares-are : (m n : ℕ) (a b : ℤ) → pos m ≡ a → pos n ≡ b → pos (m + n) ≡ a +ℤ b
-squares-are m n a b d e = omega (arith, ints)
-
 pub square_casts_fit : (p : List ℤ) → length p ≡ 8 → AreSquares p → Each1 (Asks1 (cast signed unsigned w32) (s_int w32)) (bits p)
 square_casts_fit p long h =
     let z = number_at p in
@@ -192,7 +191,7 @@ two-fit : (a b : ℤ) → IsSquare a → IsSquare b → Fits w32 (nat_abs (squar
 two-fit a b h k = squares-fit (nat_abs (square_lane a)) (nat_abs (square_lane b)) a b (abs-square a h) (abs-square b k) h k
 
 two-are : (a b : ℤ) → IsSquare a → IsSquare b → pos (nat_abs (square_lane a) + nat_abs (square_lane b)) ≡ a +ℤ b
-two-are a b h k = squares-are (nat_abs (square_lane a)) (nat_abs (square_lane b)) a b (abs-square a h) (abs-square b k)
+two-are a b h k = pos-sum (nat_abs (square_lane a)) (nat_abs (square_lane b)) a b (abs-square a h) (abs-square b k)
 
 pub square_pairs_fit : (p : List ℤ) → length p ≡ 8 → AreSquares p → Each2 (Asks2 (add unsigned) (s_int w32) (s_int w32)) (evens (unsigned_lanes (bits p))) (odds (unsigned_lanes (bits p)))
 square_pairs_fit p long h =
@@ -257,21 +256,15 @@ pub record ArePartsOf (x p : List ℤ) : Type 0 where
   pub first : (n : ℕ) → n < 4 → number_at p (2 * n) ≡ number_at x (2 * n)
   pub second : (n : ℕ) → n < 4 → number_at p (2 * n + 1) ≡ pos 0
 
-times-one : (z : ℤ) → z *ℤ pos 1 ≡ z
-times-one z = omega (arith, ints)
-
-times-zero : (z : ℤ) → z *ℤ pos 0 ≡ pos 0
-times-zero z = omega (arith, ints)
-
 pub parts_of : (x p : List ℤ) → p ≡ eight (λ n. number_at x n *ℤ number_at one_and_zero n) → ArePartsOf x p
 parts_of x p is = record {
   long = ap length is;
   first = at_four (λ n. number_at p (2 * n) ≡ number_at x (2 * n))
-      (ap (λ l. number_at l 0) is ∙ times-one (number_at x 0)) (ap (λ l. number_at l 2) is ∙ times-one (number_at x 2))
-      (ap (λ l. number_at l 4) is ∙ times-one (number_at x 4)) (ap (λ l. number_at l 6) is ∙ times-one (number_at x 6));
+      (ap (λ l. number_at l 0) is ∙ *ℤ_one (number_at x 0)) (ap (λ l. number_at l 2) is ∙ *ℤ_one (number_at x 2))
+      (ap (λ l. number_at l 4) is ∙ *ℤ_one (number_at x 4)) (ap (λ l. number_at l 6) is ∙ *ℤ_one (number_at x 6));
   second = at_four (λ n. number_at p (2 * n + 1) ≡ pos 0)
-      (ap (λ l. number_at l 1) is ∙ times-zero (number_at x 1)) (ap (λ l. number_at l 3) is ∙ times-zero (number_at x 3))
-      (ap (λ l. number_at l 5) is ∙ times-zero (number_at x 5)) (ap (λ l. number_at l 7) is ∙ times-zero (number_at x 7));
+      (ap (λ l. number_at l 1) is ∙ *ℤ-zero (number_at x 1)) (ap (λ l. number_at l 3) is ∙ *ℤ-zero (number_at x 3))
+      (ap (λ l. number_at l 5) is ∙ *ℤ-zero (number_at x 5)) (ap (λ l. number_at l 7) is ∙ *ℤ-zero (number_at x 7));
 }
 
 pub part_sums_fit : (x p : List ℤ) → AreOf16Bits x → ArePartsOf x p → Each2 (Asks2 (add signed) (s_int w32) (s_int w32)) (evens (bits p)) (odds (bits p))

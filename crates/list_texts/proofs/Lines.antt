@@ -15,13 +15,9 @@ use Rattle.word_grammar.specs.Numbers.{SaysNumber}
 use Rattle.word_grammar.specs.Pairs.{SaysPair}
 use Rattle.word_grammar.specs.Places.{IsBadAt}
 use Rattle.word_grammar.proofs.Digits.{number_bare}
-use Rattle.word_grammar.proofs.Marks.{whole_at}
+use Rattle.word_grammar.proofs.Marks.{joined, whole_at}
 use Rattle.word_grammar.proofs.Pairs.{AreWords}
 use Rattle.word_grammar.proofs.Places.{bad_same}
-
--- two words with a space between
-pub joined : (a b c d : List ℕ) → a ≡ b → c ≡ d → a ++ 32 ∷ c ≡ b ++ 32 ∷ d
-joined a b c d e f = ap (λ x. x ++ 32 ∷ c) e ∙ ap (λ x. b ++ 32 ∷ x) f
 
 -- a gap and digits
 pub gap_words : AreWords 32 (SaysNumber 16 1048576) (λ _. AreDigits)

@@ -14,8 +14,7 @@ use Rattle.list_texts.proofs.Lists.{text_bare, text_of_more}
 use Rattle.list_texts.proofs.Rates.{one_rate, rate_bare}
 use Rattle.rate_table.specs.declared.Rate.{Rate}
 use Rattle.rate_table.specs.Table.{row_of}
-use Rattle.word_grammar.specs.Marks.{HasNo}
-use Rattle.word_grammar.proofs.Digits.{digits_bare}
+use Rattle.word_grammar.proofs.Digits.{no_space}
 use Rattle.word_grammar.proofs.Marks.{seam}
 
 -- octets are bytes, as `hex` says it
@@ -30,9 +29,6 @@ same_octets : (a b : List ℕ) → AreOctets a → AreOctets b → encode_lower 
 same_octets a b p q e =
     decode_of-same (encode_lower a) a b (decode_of-encode_lower a (are_bytes a p)) (ap decode_of e ∙ decode_of-encode_lower b (are_bytes b q))
 
-digits : (n : ℕ) → n < 2 ^ 64 → HasNo 32 (decimal n)
-digits n l = digits_bare 32 n (inl (omega arith)) l
-
 abbrev entry_of : Rate → ℕ → ℕ → List ℕ → Entry
 entry_of rate seed gap psdu = record { rate = rate; seed = seed; gap = gap; psdu = psdu }
 
@@ -45,8 +41,8 @@ same_entry a b p q e =
     let last_a : List ℕ = decimal a.gap ++ 32 ∷ encode_lower a.psdu in
     let last_b : List ℕ = decimal b.gap ++ 32 ∷ encode_lower b.psdu in
     let first = seam 32 (decimal (row_of a.rate).mbps) (decimal (row_of b.rate).mbps) (decimal a.seed ++ 32 ∷ last_a) (decimal b.seed ++ 32 ∷ last_b) (rate_bare 32 a.rate (omega arith)) (rate_bare 32 b.rate (omega arith)) e in
-    let second = seam 32 (decimal a.seed) (decimal b.seed) last_a last_b (digits a.seed seed_a) (digits b.seed seed_b) first.1 in
-    let third = seam 32 (decimal a.gap) (decimal b.gap) (encode_lower a.psdu) (encode_lower b.psdu) (digits a.gap gap_a) (digits b.gap gap_b) second.1 in
+    let second = seam 32 (decimal a.seed) (decimal b.seed) last_a last_b (no_space a.seed seed_a) (no_space b.seed seed_b) first.1 in
+    let third = seam 32 (decimal a.gap) (decimal b.gap) (encode_lower a.psdu) (encode_lower b.psdu) (no_space a.gap gap_a) (no_space b.gap gap_b) second.1 in
     let rate : a.rate ≡ b.rate = one_rate a.rate b.rate first.0 in
     let seed : a.seed ≡ b.seed = decimal_injective a.seed b.seed seed_a seed_b second.0 in
     let gap : a.gap ≡ b.gap = decimal_injective a.gap b.gap gap_a gap_b third.0 in

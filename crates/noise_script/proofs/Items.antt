@@ -15,13 +15,9 @@ use Rattle.word_grammar.specs.Pairs.{SaysPair}
 use Rattle.word_grammar.specs.Places.{IsBadAt}
 use Rattle.word_grammar.specs.Signs.{SaysSigned}
 use Rattle.word_grammar.proofs.Digits.{digits_bare}
-use Rattle.word_grammar.proofs.Marks.{bare_append}
+use Rattle.word_grammar.proofs.Marks.{bare_append, joined}
 use Rattle.word_grammar.proofs.Places.{bad_same}
 use Rattle.word_grammar.proofs.Signs.{signed_bare}
-
--- two words with a space between
-pub joined : (a b c d : List ℕ) → a ≡ b → c ≡ d → a ++ 32 ∷ c ≡ b ++ 32 ∷ d
-joined a b c d e f = ap (λ x. x ++ 32 ∷ c) e ∙ ap (λ x. b ++ 32 ∷ x) f
 
 -- components in 16 bits are those of the range
 pub fits : (z : ℤ) (word : List ℕ) → SaysSigned 32768 32767 z word → FitsSigned w16 z

@@ -1,5 +1,5 @@
 -- A text says one script.
-use Rattle.std.proofs.Common.{ℕ, ◌^◌, ◌<◌, ◌≤◌, ◌≡◌, List, [], ◌∷◌, ◌++◌, All, ℤ, drop, length, inl, refl, sym, ap, ◌∙◌, subst, arith, FitsSigned}
+use Rattle.std.proofs.Common.{ℕ, ◌≤◌, ◌≡◌, List, [], ◌∷◌, ◌++◌, All, ℤ, drop, length, inl, refl, sym, ap, ◌∙◌, subst, arith, FitsSigned}
 use Rattle.std.proofs.lemmas.Fmt.{decimal_injective}
 use Rattle.std.proofs.lemmas.List.Elements.{All-head, All-tail}
 use Rattle.std.specs.Fmt.{decimal, signed_decimal}
@@ -12,12 +12,9 @@ use Rattle.noise_script.specs.declared.Item.TheVariants.{Lead, Trail, Uniform, S
 use Rattle.noise_script.proofs.Items.{item_bare, item_parts, says_component}
 use Rattle.noise_script.proofs.Keys.{key_bare, one_key}
 use Rattle.word_grammar.specs.Marks.{HasNo}
-use Rattle.word_grammar.proofs.Digits.{digits_bare}
+use Rattle.word_grammar.proofs.Digits.{no_space}
 use Rattle.word_grammar.proofs.Marks.{bare_no, seam}
 use Rattle.word_grammar.proofs.Signs.{same_signed, signed_bare}
-
-digits : (n : ℕ) → n < 2 ^ 64 → HasNo 32 (decimal n)
-digits n b = digits_bare 32 n (inl (omega arith)) b
 
 component : (z : ℤ) → FitsSigned w16 z → HasNo 32 (signed_decimal z)
 component z h = signed_bare 32 32768 32767 z (signed_decimal z) (inl (omega arith)) (λ e. omega (arith, e)) (omega arith) (omega arith) (says_component z h)
@@ -31,19 +28,19 @@ same_behind : (u v : Item) → IsInRange u → IsInRange v → key_of u ≡ key_
 same_behind (Lead a) (Lead b) p q k e = ap Lead (decimal_injective a b (omega (arith, p)) (omega (arith, q)) e)
 same_behind (Trail a) (Trail b) p q k e = ap Trail (decimal_injective a b (omega (arith, p)) (omega (arith, q)) e)
 same_behind (Uniform a s) (Uniform b t) p q k e =
-    let apart = seam 32 (decimal a) (decimal b) (decimal s) (decimal t) (digits a (omega (arith, p.0))) (digits b (omega (arith, q.0))) e in
+    let apart = seam 32 (decimal a) (decimal b) (decimal s) (decimal t) (no_space a (omega (arith, p.0))) (no_space b (omega (arith, q.0))) e in
     let first : a ≡ b = decimal_injective a b (omega (arith, p.0)) (omega (arith, q.0)) apart.0 in
     let second : s ≡ t = decimal_injective s t p.1 q.1 apart.1 in
     cc
 same_behind (Spike a i q) (Spike b j r) g h k e =
-    let apart = seam 32 (decimal a) (decimal b) (signed_decimal i ++ 32 ∷ signed_decimal q) (signed_decimal j ++ 32 ∷ signed_decimal r) (digits a (omega (arith, g.0))) (digits b (omega (arith, h.0))) e in
+    let apart = seam 32 (decimal a) (decimal b) (signed_decimal i ++ 32 ∷ signed_decimal q) (signed_decimal j ++ 32 ∷ signed_decimal r) (no_space a (omega (arith, g.0))) (no_space b (omega (arith, h.0))) e in
     let more = seam 32 (signed_decimal i) (signed_decimal j) (signed_decimal q) (signed_decimal r) (component i g.1) (component j h.1) apart.1 in
     let first : a ≡ b = decimal_injective a b (omega (arith, g.0)) (omega (arith, h.0)) apart.0 in
     let second : i ≡ j = same_component i j g.1 h.1 more.0 in
     let third : q ≡ r = same_component q r g.2 h.2 more.1 in
     cc
 same_behind (Cut a s) (Cut b t) p q k e =
-    let apart = seam 32 (decimal a) (decimal b) (decimal s) (decimal t) (digits a (omega (arith, p.0))) (digits b (omega (arith, q.0))) e in
+    let apart = seam 32 (decimal a) (decimal b) (decimal s) (decimal t) (no_space a (omega (arith, p.0))) (no_space b (omega (arith, q.0))) e in
     let first : a ≡ b = decimal_injective a b (omega (arith, p.0)) (omega (arith, q.0)) apart.0 in
     let second : s ≡ t = decimal_injective s t (omega (arith, p.1)) (omega (arith, q.1)) apart.1 in
     cc

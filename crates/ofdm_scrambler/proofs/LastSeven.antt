@@ -106,7 +106,8 @@ scrambled_by_zero bits are_bits =
 length-scrambled : (number : ℕ) (bits : List ℕ) → length (scrambled number bits) ≡ length bits
 length-scrambled number bits = length-map-range_with_len (λ n. exclusive_or (slice_index bits n) (scrambler_bit number n)) 0 (length bits)
 
-scrambled_at : (number : ℕ) (bits : List ℕ) (n : ℕ) → n < length bits → slice_index (scrambled number bits) n ≡ exclusive_or (slice_index bits n) (scrambler_bit number n)
+-- a bit of a scrambled list
+pub scrambled_at : (number : ℕ) (bits : List ℕ) (n : ℕ) → n < length bits → slice_index (scrambled number bits) n ≡ exclusive_or (slice_index bits n) (scrambler_bit number n)
 scrambled_at number bits n lt =
     get_or-map-range_with_len (λ n. exclusive_or (slice_index bits n) (scrambler_bit number n)) 0 (length bits) n n 0 lt (omega arith)
 

@@ -1,5 +1,5 @@
 -- Parts of products, as the code computes them, and entries of turned lists.
-use Rattle.std.proofs.Common.{◌≡◌, ℕ, ◌*◌, ◌^◌, ◌≤◌, List, map, refl, ap, sym, ◌∙◌, arith, ℤ, pos, ◌+ℤ◌, ◌-ℤ◌, ◌*ℤ◌, neg_ℤ, ◌<◌, ◌≤ℤ◌, unsigned_abs, w32, w64, to_z, of_z}
+use Rattle.std.proofs.Common.{◌≡◌, ℕ, ◌*◌, ◌^◌, ◌≤◌, List, map, refl, ap, sym, ◌∙◌, arith, ℤ, pos, ◌+ℤ◌, ◌-ℤ◌, ◌*ℤ◌, neg_ℤ, ◌<◌, ◌≤ℤ◌, unsigned_abs, w32, to_z, of_z}
 use mir.Syntax.{w128}
 use Rattle.std.proofs.Math.ListN.{get_or-map}
 use Rattle.std.proofs.lemmas.Int.{ints, to_z-of_z, fits_signed_from_abs, fits_signed_mul}
@@ -9,18 +9,16 @@ use Rattle.fixed_complex.specs.declared.Cx.{Cx}
 use Rattle.fixed_complex.specs.PairLists.{entry}
 use Rattle.fixed_complex.specs.Pairs.{conjugate, multiple, times, zero_pair}
 use Rattle.fixed_complex.proofs.Pairs.{same_parts}
+use Rattle.fixed_complex.proofs.Parts.{held, held_is}
 use Rattle.fixed_complex.proofs.Sums.{zero_times}
 use Rattle.pilot_turns.specs.Pilots.{turn_part}
 use Rattle.pilot_turns.specs.Turned.{turned_carriers, turned_channels}
 
-abbrev held64 : ℤ → ℤ
-held64 z = to_z w64 (of_z w64 z)
-
 -- sums and differences that fit
-pub sum_is : (p q : ℤ) → unsigned_abs p ≤ 2 ^ 61 → unsigned_abs q ≤ 2 ^ 61 → held64 (held64 p +ℤ held64 q) ≡ p +ℤ q
+pub sum_is : (p q : ℤ) → unsigned_abs p ≤ 2 ^ 61 → unsigned_abs q ≤ 2 ^ 61 → held (held p +ℤ held q) ≡ p +ℤ q
 sum_is p q small_p small_q = omega (arith, ints)
 
-pub difference_is : (p q : ℤ) → unsigned_abs p ≤ 2 ^ 61 → unsigned_abs q ≤ 2 ^ 61 → held64 (held64 p -ℤ held64 q) ≡ p -ℤ q
+pub difference_is : (p q : ℤ) → unsigned_abs p ≤ 2 ^ 61 → unsigned_abs q ≤ 2 ^ 61 → held (held p -ℤ held q) ≡ p -ℤ q
 difference_is p q small_p small_q = omega (arith, ints)
 
 -- the parts of a product with a conjugate
@@ -50,19 +48,16 @@ pub carrier_entry : (symbol : List Cx) (bin : ℕ) → entry (turned_carriers sy
 carrier_entry symbol bin =
     get_or-map (multiple (pos 16384)) symbol bin zero_pair
 
--- numbers that the code holds in words of 64 and of 128 bits
+-- numbers that the code holds in words of 128 bits
 abbrev held128 : ℤ → ℤ
 held128 z = to_z w128 (of_z w128 z)
 
-kept : (z : ℤ) → unsigned_abs z ≤ 2 ^ 62 → held64 z ≡ z
-kept z small = omega (arith, ints)
+pub product_is : (p a u : ℤ) → unsigned_abs a ≤ 2 ^ 62 → unsigned_abs u ≤ 2 ^ 62 → p ≡ held a *ℤ held u → p ≡ a *ℤ u
+product_is p a u small small' is = is ∙ ap (λ x. x *ℤ held u) (held_is a small) ∙ ap (λ y. a *ℤ y) (held_is u small')
 
-pub product_is : (p a u : ℤ) → unsigned_abs a ≤ 2 ^ 62 → unsigned_abs u ≤ 2 ^ 62 → p ≡ held64 a *ℤ held64 u → p ≡ a *ℤ u
-product_is p a u small small' is = is ∙ ap (λ x. x *ℤ held64 u) (kept a small) ∙ ap (λ y. a *ℤ y) (kept u small')
-
-pub wide_is : (f z : ℤ) → unsigned_abs z ≤ 2 ^ 62 → f ≡ held64 z → held128 (pos 16384 *ℤ held128 f) ≡ pos 16384 *ℤ z
+pub wide_is : (f z : ℤ) → unsigned_abs z ≤ 2 ^ 62 → f ≡ held z → held128 (pos 16384 *ℤ held128 f) ≡ pos 16384 *ℤ z
 wide_is f z small is =
-    let same : f ≡ z = is ∙ kept z small in
+    let same : f ≡ z = is ∙ held_is z small in
     let inner : held128 f ≡ z = rw same (to_z-of_z w128 z (fits_signed_from_abs w128 z (omega arith))) in
     let whole : FitsSigned w128 (pos 16384 *ℤ z) = fits_signed_mul w128 (pos 16384) z 16384 (2 ^ 62) (omega arith) small (omega arith) in
     rw inner (to_z-of_z w128 _ whole)
@@ -75,5 +70,5 @@ pub carrier_is : (k : ℕ) (z : ℤ) → k < 4 → z ≡ pos (14 * k) -ℤ pos 2
 carrier_is k z lt is = rw is (omega (arith, ints))
 
 -- a component of a turn, as the code holds it
-pub part_is : (p : ℤ) (weight : ℕ) (part : ℤ) → unsigned_abs part ≤ 2 ^ 48 → unsigned_abs p ≤ 2 ^ 15 → p ≡ turn_part weight (held64 part) → held64 p ≡ turn_part weight part
-part_is p weight part small small' is = kept p (omega arith) ∙ is ∙ ap (turn_part weight) (kept part (omega arith))
+pub part_is : (p : ℤ) (weight : ℕ) (part : ℤ) → unsigned_abs part ≤ 2 ^ 48 → unsigned_abs p ≤ 2 ^ 15 → p ≡ turn_part weight (held part) → held p ≡ turn_part weight part
+part_is p weight part small small' is = held_is p (omega arith) ∙ is ∙ ap (turn_part weight) (held_is part (omega arith))

@@ -1,9 +1,9 @@
 -- The marks that the places of the code carry.
-use Rattle.std.proofs.Common.{◌≡◌, ℕ, zero, suc, ◌+◌, ◌*◌, ◌<◌, ◌≤◌, List, [], ◌∷◌, ◌++◌, Bool, true, false, map, get_or, take, refl, ◌∙◌, arith}
+use Rattle.std.proofs.Common.{◌≡◌, ℕ, ◌+◌, ◌*◌, ◌<◌, List, [], ◌∷◌, ◌++◌, Bool, true, false, get_or, take, refl, ◌∙◌, arith}
 use Rattle.std.specs.Prelude.{if◌then◌else◌}
-use Rattle.std.specs.List.{range_with_len}
 use Rattle.std.proofs.lemmas.List.{get_or-take}
 use Rattle.std.proofs.lemmas.List.FromFn.{map-range_with_len_more}
+use Rattle.bit_lists.proofs.ByPlace.{map-agree}
 use Rattle.rate_table.specs.declared.CodeRate.{CodeRate}
 use Rattle.puncture_map.specs.Kept.{is_kept, kept_count, rank}
 use Rattle.puncture_map.specs.Carried.{carried_at, carried_pair, carried_pairs}
@@ -37,9 +37,6 @@ module _ {M : Type 0} (mark_of : ℕ → M) (absent : M) (rate : CodeRate) (deci
 
     -- decisions behind those that the steps carry play no part
     pub carried_pairs-take : (steps : ℕ) → carried_pairs mark_of absent rate (take (kept_count rate steps) decisions) steps ≡ carried_pairs mark_of absent rate decisions steps
-    carried_pairs-take steps = from 0 steps (omega arith)
-      where
-        from : (start count : ℕ) → start + count ≤ steps
-            → map (carried_pair mark_of absent rate (take (kept_count rate steps) decisions)) (range_with_len start count) ≡ map (carried_pair mark_of absent rate decisions) (range_with_len start count)
-        from start zero h = refl
-        from start (suc count) h = rw (carried_pair-take steps start (omega arith), from (start + 1) count (omega arith))
+    carried_pairs-take steps =
+        map-agree (carried_pair mark_of absent rate (take (kept_count rate steps) decisions)) (carried_pair mark_of absent rate decisions) steps
+        (carried_pair-take steps)

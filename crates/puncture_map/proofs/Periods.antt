@@ -1,5 +1,5 @@
 -- Kept places, walked step by step.
-use Rattle.std.proofs.Common.{◌≡◌, ℕ, ◌+◌, ◌*◌, ◌%◌, ◌<◌, ◌≤◌, Bool, true, false, cond, refl, sym, ap, ◌∙◌, arith}
+use Rattle.std.proofs.Common.{◌≡◌, ℕ, ◌+◌, ◌*◌, ◌/◌, ◌%◌, ◌<◌, ◌≤◌, Bool, true, false, cond, refl, sym, ap, ◌∙◌, arith}
 use mir.Val.{bool_byte}
 use Rattle.rate_table.specs.declared.CodeRate.{CodeRate}
 use Rattle.rate_table.specs.declared.CodeRate.TheVariants.{Half, TwoThirds, ThreeQuarters}
@@ -11,6 +11,69 @@ pub at_start : (rate : CodeRate) → (0 % period_of rate ≡ 0) × (0 < period_o
 at_start Half = (refl, omega arith)
 at_start TwoThirds = (refl, omega arith)
 at_start ThreeQuarters = (refl, omega arith)
+
+-- whole periods: none, one more, and those of a count of steps with the steps behind them
+pub record IsWalked (rate : CodeRate) (count n phase : ℕ) : Type 0 where
+  pub none : 0 * period_of rate ≡ 0
+  pub some : 1 ≤ period_of rate
+  pub few : period_of rate ≤ 3
+  pub more : (n + 1) * period_of rate ≡ n * period_of rate + period_of rate
+  pub begins : n * period_of rate % period_of rate ≡ 0
+  pub within : n < count / period_of rate → n * period_of rate + period_of rate ≤ count
+  pub all : count ≡ count / period_of rate * period_of rate + count % period_of rate
+  pub behind : phase < period_of rate → (n * period_of rate + phase) % period_of rate ≡ phase
+  pub rest : count % period_of rate < period_of rate
+  pub zero : n ≡ 0 → n * period_of rate ≡ 0
+
+pub walked : (rate : CodeRate) (count n phase : ℕ) → IsWalked rate count n phase
+walked Half count n phase = record {
+  none = refl;
+  some = omega arith;
+  few = omega arith;
+  more = omega arith;
+  begins = omega arith;
+  within = λ h. omega arith;
+  all = omega arith;
+  behind = λ h. omega arith;
+  rest = omega arith;
+  zero = λ h. omega arith;
+}
+walked TwoThirds count n phase = record {
+  none = refl;
+  some = omega arith;
+  few = omega arith;
+  more = omega arith;
+  begins = omega arith;
+  within = λ h. omega arith;
+  all = omega arith;
+  behind = λ h. omega arith;
+  rest = omega arith;
+  zero = λ h. omega arith;
+}
+walked ThreeQuarters count n phase = record {
+  none = refl;
+  some = omega arith;
+  few = omega arith;
+  more = omega arith;
+  begins = omega arith;
+  within = λ h. omega arith;
+  all = omega arith;
+  behind = λ h. omega arith;
+  rest = omega arith;
+  zero = λ h. omega arith;
+}
+
+-- the steps of the whole periods
+pub begun : (rate : CodeRate) (count n p : ℕ) → n ≡ count / p → p ≡ period_of rate → n * period_of rate ≡ count / period_of rate * period_of rate
+begun rate count n p done is = ap (λ k. k * period_of rate) (done ∙ ap (λ q. count / q) is)
+
+-- and all steps with those behind them
+pub all_fed : (rate : CodeRate) (count phase p : ℕ) → phase ≡ count % p → p ≡ period_of rate → count / period_of rate * period_of rate + phase ≡ count
+all_fed rate count phase p end is = omega (arith, end ∙ ap (λ q. count % q) is, (walked rate count 0 0).all)
+
+-- no steps have no kept places
+pub none_kept : (rate : CodeRate) (n : ℕ) → n ≡ 0 → 0 ≡ kept_count rate n
+none_kept rate n none = rw none refl
 
 -- a test as a number
 byte_is : (b : Bool) → bool_byte b ≡ cond b 1 0

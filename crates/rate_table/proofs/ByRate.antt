@@ -1,5 +1,5 @@
 -- What holds of each of the eight rates.
-use Rattle.std.proofs.Common.{◌≡◌, ℕ, ◌-◌, ◌*◌, ◌<◌, ◌^◌, ◌∷◌, [], slice_index_or, lit<, refl, sym, ap, ◌∙◌}
+use Rattle.std.proofs.Common.{◌≡◌, ℕ, ◌-◌, ◌*◌, ◌<◌, ◌≤◌, ◌^◌, ◌∷◌, [], slice_index_or, lit<, lit≤, refl, sym, ap, ◌∙◌, arith}
 use Rattle.std.specs.Prelude.{◌==◌, if◌then◌else◌}
 use Rattle.rate_table.specs.declared.Rate.{Rate}
 use Rattle.rate_table.specs.declared.Rate.TheVariants.{R6, R9, R12, R18, R24, R36, R48, R54}
@@ -54,9 +54,23 @@ one_by_pattern rate other same = sym (rate_of_pattern-of rate) ∙ ap rate_of_pa
 pub pattern_fits : (rate : Rate) → (row_of rate).pattern < 2 ^ 4
 pattern_fits = by_rate (λ rate. (row_of rate).pattern < 2 ^ 4) (lit< tt) (lit< tt) (lit< tt) (lit< tt) (lit< tt) (lit< tt) (lit< tt) (lit< tt)
 
+-- N_BPSC is that of the modulation
+pub width_is : (rate : Rate) → (row_of rate).bits_per_carrier ≡ bits_of_modulation (row_of rate).modulation
+width_is = by_rate (λ rate. (row_of rate).bits_per_carrier ≡ bits_of_modulation (row_of rate).modulation) refl refl refl refl refl refl refl refl
+
 -- N_CBPS is 48 times N_BPSC of the modulation
 pub coded_bits_by_modulation : (rate : Rate) → (row_of rate).coded_bits ≡ 48 * bits_of_modulation (row_of rate).modulation
 coded_bits_by_modulation = by_rate (λ r. (row_of r).coded_bits ≡ 48 * bits_of_modulation (row_of r).modulation) refl refl refl refl refl refl refl refl
+
+-- a symbol has at most 288 bits
+pub coded_bits-le : (rate : Rate) → (row_of rate).coded_bits ≤ 288
+coded_bits-le = by_rate (λ rate. (row_of rate).coded_bits ≤ 288) (omega arith) (omega arith) (omega arith) (omega arith) (omega arith) (omega arith) (omega arith) (omega arith)
+
+-- the bound of noise is from 8 to 64
+pub noise_bound_from : (rate : Rate) → (8 ≤ (row_of rate).noise_bound) × ((row_of rate).noise_bound ≤ 64)
+noise_bound_from =
+    by_rate (λ rate. (8 ≤ (row_of rate).noise_bound) × ((row_of rate).noise_bound ≤ 64))
+    (lit≤ tt, lit≤ tt) (lit≤ tt, lit≤ tt) (lit≤ tt, lit≤ tt) (lit≤ tt, lit≤ tt) (lit≤ tt, lit≤ tt) (lit≤ tt, lit≤ tt) (lit≤ tt, lit≤ tt) (lit≤ tt, lit≤ tt)
 
 -- the bound of flips is that of the code rate
 pub flip_bound_by_code_rate : (rate : Rate) → (row_of rate).flip_bound ≡ flip_bound_of (row_of rate).code_rate

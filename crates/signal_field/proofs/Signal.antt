@@ -1,16 +1,16 @@
 -- The bits of a header.
-use Rattle.std.proofs.Common.{◌≡◌, ℕ, zero, suc, ◌+◌, ◌*◌, ◌/◌, ◌%◌, ◌^◌, ◌<◌, List, [], ◌∷◌, ◌++◌, length, take, drop, set, get_or, slice_index_or, refl, sym, ap, ◌∙◌, arith, append_assoc}
+use Rattle.std.proofs.Common.{◌≡◌, ℕ, ◌+◌, ◌*◌, ◌/◌, ◌%◌, ◌^◌, ◌<◌, List, ◌∷◌, ◌++◌, length, take, drop, set, get_or, slice_index_or, refl, sym, ap, ◌∙◌, arith}
 use Rattle.std.specs.Prelude.{sum, replicate}
 use Rattle.std.specs.Int.{bit_at}
 use Rattle.std.specs.Int.Bits.{bit_and}
 use Rattle.std.specs.List.{flat_map, range_with_len}
-use Rattle.std.proofs.lemmas.List.{length-set, take_all, take_more_set}
-use Rattle.std.proofs.lemmas.List.Elements.{All-append, All-cons, All-map, All-nil}
+use Rattle.std.proofs.lemmas.List.{take_all, take_more_set}
+use Rattle.std.proofs.lemmas.List.Elements.{All-append, All-cons, All-map}
 use Rattle.std.proofs.lemmas.List.FromFn.{get_or-map-range_with_len, map-range_with_len_more}
 use Rattle.std.proofs.lemmas.Nat.Bits.{bit_at-lt, same_from_bits_below, shr_and_one}
 use Rattle.bit_lists.specs.Bits.{AreBits, IsBit}
-use Rattle.conv_code.specs.Code.{code_of, parities, parity_a, parity_b}
-use Rattle.conv_code.proofs.Coded.{code_more}
+use Rattle.bit_lists.proofs.ByPlace.{AreBits-zeros}
+use Rattle.conv_code.specs.Code.{code_of, parities}
 use Rattle.rate_table.specs.declared.Rate.{Rate}
 use Rattle.rate_table.specs.Table.{row_of}
 use Rattle.rate_table.proofs.ByRate.{one_by_pattern, pattern_fits}
@@ -33,11 +33,6 @@ pub AreBits-front_bits_of : (rate : Rate) (length reserved : ℕ) → IsBit rese
 unfolding front_bits_of
 AreBits-front_bits_of rate length reserved is =
     All-append IsBit (bits_of_number 4 (row_of rate).pattern) (reserved ∷ bits_of_number 12 length) (AreBits-bits_of_number 4 (row_of rate).pattern) (All-cons IsBit reserved (bits_of_number 12 length) is (AreBits-bits_of_number 12 length))
-
--- zeros are bits
-AreBits-zeros : (count : ℕ) → AreBits (replicate count 0)
-AreBits-zeros zero = All-nil IsBit
-AreBits-zeros (suc count) = All-cons IsBit 0 (replicate count 0) (omega arith) (AreBits-zeros count)
 
 -- all 24 bits are bits
 pub AreBits-header_bits_of : (rate : Rate) (length reserved : ℕ) → IsBit reserved → AreBits (header_bits_of rate length reserved)
@@ -67,15 +62,6 @@ pub number_more : (number k : ℕ) (xs : List ℕ) → k < length xs → take k 
 unfolding bits_of_number
 number_more number k xs lt before =
     rw (take_more_set xs k (bit_and (number / 2 ^ k) 1) lt, before, shr_and_one number k) (sym (map-range_with_len_more (bit_at number) 0 k k (omega arith)))
-
--- one place more of a code
-pub coded_more : (u : List ℕ) (k a b : ℕ) (xs : List ℕ) → 2 * k + 1 < length xs → a ≡ parity_a u k → b ≡ parity_b u k → take (2 * k) xs ≡ flat_map (parities u) (range_with_len 0 k) → take (2 * (k + 1)) (set (set xs (2 * k) a) (2 * k + 1) b) ≡ flat_map (parities u) (range_with_len 0 (k + 1))
-coded_more u k a b xs lt at_a at_b before =
-    let end : 2 * (k + 1) ≡ 2 * k + 1 + 1 = omega arith in
-    let kept : length (set xs (2 * k) a) ≡ length xs = length-set xs (2 * k) a in
-    let second = take_more_set (set xs (2 * k) a) (2 * k + 1) b (omega arith) in
-    let first = take_more_set xs (2 * k) a (omega arith) in
-    rw (end, second, first, before, code_more u k, at_a, at_b) (append_assoc (flat_map (parities u) (range_with_len 0 k)) (parity_a u k ∷ []) (parity_b u k ∷ []))
 
 -- all 24 places of a code
 pub code_whole : (u code : List ℕ) (k : ℕ) → length u ≡ 24 → length code ≡ 48 → k ≡ 24 → take (2 * k) code ≡ flat_map (parities u) (range_with_len 0 k) → code ≡ code_of u

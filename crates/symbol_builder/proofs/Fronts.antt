@@ -1,9 +1,8 @@
 -- A point depends on its first N_BPSC bits alone.
-use Rattle.std.proofs.Common.{◌≡◌, ℕ, zero, suc, ◌+◌, ◌-◌, ◌*◌, ◌<◌, ◌≤◌, List, ◌∷◌, map, take, drop, ap, sym, subst, ◌∙◌, refl, arith}
+use Rattle.std.proofs.Common.{◌≡◌, ℕ, ◌+◌, ◌-◌, ◌*◌, ◌<◌, ◌≤◌, List, take, drop, ap, sym, subst, ◌∙◌, arith}
 use Rattle.std.proofs.Math.Nat.{mul-le-mul_left}
-use Rattle.std.specs.List.{range_with_len}
 use Rattle.std.proofs.lemmas.List.{drop-take, take-take}
-use Rattle.fixed_complex.specs.declared.Cx.{Cx}
+use Rattle.bit_lists.proofs.ByPlace.{map-agree}
 use Rattle.rate_table.specs.declared.Modulation.{Modulation}
 use Rattle.rate_table.specs.declared.Rate.{Rate}
 use Rattle.rate_table.specs.Table.{bits_of_modulation, row_of}
@@ -26,13 +25,6 @@ group_of_front bits w d count le =
     let inside : take w (take rest (drop (w * d) bits)) ≡ take w (drop (w * d) bits) = take-take w rest (drop (w * d) bits) (omega arith) in
     rw (split, drop-take (w * d) rest bits) (sym inside)
 
--- two functions that agree on a range give one list
-same_lists : (f g : ℕ → Cx) (a n : ℕ) → ((k : ℕ) → a ≤ k → k < a + n → f k ≡ g k) → map f (range_with_len a n) ≡ map g (range_with_len a n)
-same_lists f g a zero same = refl
-same_lists f g a (suc n) same =
-    ap (λ first. first ∷ map f (range_with_len (a + 1) n)) (same a (omega arith) (omega arith))
-    ∙ ap (λ rest. g a ∷ rest) (same_lists f g (a + 1) n (λ k le lt. same k (omega arith) (omega arith)))
-
 -- N_BPSC times d, and N_BPSC more, is at most 48 times N_BPSC
 pub group_within : (w d : ℕ) → d < 48 → w * d + w ≤ 48 * w
 group_within w d lt = let most : w * (d + 1) ≤ w * 48 = mul-le-mul_left w (omega arith) in omega (arith, most)
@@ -43,5 +35,5 @@ unfolding points_of
 points_of_front modulation bits rate e =
     let w = bits_of_modulation modulation in
     let count : (row_of rate).coded_bits ≡ 48 * w = coded_bits_by_modulation rate ∙ ap (λ m. 48 * bits_of_modulation m) e in
-    same_lists (point_at modulation bits) (point_at modulation (take (row_of rate).coded_bits bits)) 0 48
-    (λ d le lt. ap (point_of modulation) (group_of_front bits w d (row_of rate).coded_bits (subst (λ n. w * d + w ≤ n) (sym count) (group_within w d (omega arith)))))
+    map-agree (point_at modulation bits) (point_at modulation (take (row_of rate).coded_bits bits)) 48
+    (λ d lt. ap (point_of modulation) (group_of_front bits w d (row_of rate).coded_bits (subst (λ n. w * d + w ≤ n) (sym count) (group_within w d (omega arith)))))

@@ -6,7 +6,6 @@ use Rattle.rate_table.specs.declared.Rate.{Rate}
 use Rattle.rate_table.specs.declared.Rate.TheVariants.{R6, R9, R12, R18, R24, R36, R48, R54}
 use Rattle.rate_table.specs.Table.{row_of}
 use Rattle.decided_axis.specs.Channels.{Allows}
-use Rattle.rate_table.proofs.ByRate.{by_rate}
 
 -- what a modulation's noise bound leaves of the estimate, 41472 less twice the error of a carrier
 abbrev pub left_in_noise : Modulation → ℕ
@@ -40,7 +39,3 @@ noise_allows R24 = qam16_16
 noise_allows R36 = qam16_16
 noise_allows R48 = qam64_8
 noise_allows R54 = qam64_8
-
--- no rate's bound is larger than 64
-pub bound_most : (rate : Rate) → (row_of rate).noise_bound ≤ 64
-bound_most = by_rate (λ rate. (row_of rate).noise_bound ≤ 64) (omega arith) (omega arith) (omega arith) (omega arith) (omega arith) (omega arith) (omega arith) (omega arith)

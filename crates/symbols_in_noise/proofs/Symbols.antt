@@ -14,11 +14,12 @@ use Rattle.carrier_equaliser.specs.Decided.{interleaved_decisions}
 use Rattle.carrier_equaliser.specs.Estimates.{estimate_of}
 use Rattle.carrier_equaliser.specs.Received.{received}
 use Rattle.fixed_complex.specs.Pairs.{IsAtLeastOfSize}
+use Rattle.rate_table.proofs.ByRate.{noise_bound_from}
 use Rattle.decided_axis.proofs.Bodies.{decided_by_bodies}
 use Rattle.decided_axis.proofs.Fitting.{long_fit, symbol_fit}
 use Rattle.symbols_in_noise.specs.Laws.{IsNearBody}
 use Rattle.symbols_in_noise.proofs.Bodies.{carried, one}
-use Rattle.symbols_in_noise.proofs.Bounds.{bound_most, left_in_noise, noise_allows}
+use Rattle.symbols_in_noise.proofs.Bounds.{left_in_noise, noise_allows}
 
 one_large : IsAtLeastOfSize 1 one
 one_large = record { size = pos-le 1 1 (omega arith) }
@@ -26,7 +27,7 @@ one_large = record { size = pos-le 1 1 (omega arith) }
 module _ (rate : Rate) (bound number : ℕ) (bits : List ℕ) (first second symbol : List Sample) (least : bound ≤ (row_of rate).noise_bound) (are : AreBits bits) (long : length bits ≡ (row_of rate).coded_bits)
     (near_first : IsNearBody bound (by_bin long_carrier) first) (near_second : IsNearBody bound (by_bin long_carrier) second) (near_symbol : IsNearBody bound (symbol_bin (points_of_code rate bits) number) symbol) where
   most : bound ≤ 64
-  most = omega (arith, least, bound_most rate)
+  most = omega (arith, least, noise_bound_from rate)
 
   pub symbol_back : deinterleaved rate (interleaved_decisions rate (estimate_of (received first) (received second)) (received symbol)) ≡ bits
   symbol_back =

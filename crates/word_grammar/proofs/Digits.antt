@@ -212,6 +212,9 @@ digits_bare mark n other b =
     decimal_by_steps (λ m ds. HasNo mark ds) (λ d l. (differ d l, tt))
     (λ m ds l h. bare_append mark ds ((48 + m % 10) ∷ []) h (differ (m % 10) (omega arith), tt)) n b
 
+pub no_space : (n : ℕ) → n < 2 ^ 64 → HasNo 32 (decimal n)
+no_space n b = digits_bare 32 n (inl (omega arith)) b
+
 pub number_bare : (mark least most n : ℕ) (word : List ℕ) → (mark < 48) ⊎ (57 < mark) → most < 2 ^ 64 → SaysNumber least most n word → HasNo mark word
 number_bare mark least most n word other b says = subst (HasNo mark) (sym says.is) (digits_bare mark n other (omega (arith, says.up_to)))
 

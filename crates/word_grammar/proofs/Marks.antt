@@ -51,6 +51,10 @@ bare_append mark (x ∷ front) rest h k = (h.0, bare_append mark front rest h.1 
 pub same_cons : (x y : ℕ) (a b : List ℕ) → x ≡ y → a ≡ b → x ∷ a ≡ y ∷ b
 same_cons x y a b e f = ap (λ z. z ∷ a) e ∙ ap (λ r. y ∷ r) f
 
+-- two words with a space between
+pub joined : (a b c d : List ℕ) → a ≡ b → c ≡ d → a ++ 32 ∷ c ≡ b ++ 32 ∷ d
+joined a b c d e f = ap (λ x. x ++ 32 ∷ c) e ∙ ap (λ x. b ++ 32 ∷ x) f
+
 -- the first mark tells a word and what stands behind it apart
 pub seam : (mark : ℕ) (a b s t : List ℕ) → HasNo mark a → HasNo mark b → a ++ mark ∷ s ≡ b ++ mark ∷ t → (a ≡ b) × (s ≡ t)
 seam mark [] [] s t p q e = (refl, ap (drop 1) e)

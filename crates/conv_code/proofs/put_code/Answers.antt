@@ -1,13 +1,13 @@
-use Rattle.std.proofs.Common.{◌≡◌, ℕ, ◌+◌, ◌-◌, ◌*◌, ◌/◌, ◌<◌, ◌≤◌, ◌++◌, List, [], ◌∷◌, length, get_or, replicate, take, bit_xor, refl, ap, inl, inr, sym, ◌∙◌, append_assoc, arith}
-use Rattle.std.proofs.Math.ListN.{set, length-set}
+use Rattle.std.proofs.Common.{◌≡◌, ℕ, ◌+◌, ◌-◌, ◌*◌, ◌++◌, List, length, get_or, replicate, bit_xor, ap, inl, inr, sym, ◌∙◌, arith}
+use Rattle.std.proofs.Math.ListN.{length-set}
 use Rattle.std.specs.List.{flat_map, range_with_len}
 use Rattle.std.proofs.lemmas.Bool.{cases_lt}
-use Rattle.std.proofs.lemmas.List.{get_or_append_left, get_or-append-add, length-append, take_all, take_more_set}
+use Rattle.std.proofs.lemmas.List.{get_or_append_left, get_or-append-add, length-append, take_all}
 use Rattle.std.proofs.lemmas.Simd.{get_or-replicate}
-use Rattle.bit_lists.specs.Bits.{AreBits, IsBit}
+use Rattle.bit_lists.specs.Bits.{AreBits}
 use Rattle.bit_lists.proofs.BitFacts.{IsBit-slice_index}
-use Rattle.conv_code.specs.Code.{code_of, earlier, parities, parity_a, parity_b}
-use Rattle.conv_code.proofs.Coded.{code_more}
+use Rattle.conv_code.specs.Code.{earlier, parities, parity_a, parity_b}
+use Rattle.conv_code.proofs.Coded.{coded_more}
 use Rattle.conv_code.proofs.ExclusiveOr.{bit_xor_of_five}
 use Rattle.conv_code.proofs.Inputs.{earlier_before, earlier_inside}
 use Rattle.conv_code.proofs.put_code.Goals as goal
@@ -42,15 +42,6 @@ b_is u inputs i bits behind =
     let at = λ (steps k : ℕ) (e : k + steps ≡ i + 6). input_is u inputs i steps k behind e in
     bit_xor_of_five _ _ _ _ _ (bit (i + 6)) (bit (i + 5)) (bit (i + 4)) (bit (i + 3)) (bit i)
     ∙ rw (at 0 (i + 6) (omega arith), at 1 (i + 5) (omega arith), at 2 (i + 4) (omega arith), at 3 (i + 3) (omega arith), at 6 i (omega arith))
-
--- two places more
-coded_more : (u code : List ℕ) (i a b : ℕ) → 2 * i + 1 < length code → a ≡ parity_a u i → b ≡ parity_b u i → take (2 * i) code ≡ flat_map (parities u) (range_with_len 0 i)
-    → take (2 * (i + 1)) (set (set code (2 * i) a) (2 * i + 1) b) ≡ flat_map (parities u) (range_with_len 0 (i + 1))
-coded_more u code i a b within first second coded =
-    let next : 2 * (i + 1) ≡ 2 * i + 1 + 1 = omega arith in
-    rw next
-    (take_more_set (set code (2 * i) a) (2 * i + 1) b (omega (arith, length-set {A = ℕ}))
-    ∙ rw (take_more_set code (2 * i) a (omega arith), coded, append_assoc, first, second) (sym (code_more u i)))
 
 pub loop-i-preserved : goal.loop-i-preserved
 loop-i-preserved c = record {

@@ -1,8 +1,10 @@
 use Rattle.std.proofs.Common.{◌<◌, slice_index, refl, arith}
+use Rattle.bit_lists.proofs.ByPlace.{slice_index-zeros, take-by_place}
 use Rattle.rate_table.specs.Table.{row_of}
+use Rattle.rate_table.proofs.ByRate.{coded_bits-le}
 use Rattle.interleave_two.specs.Place.{interleaved_place}
 use Rattle.interleave_two.proofs.Ways.{interleaved_place-lt}
-use Rattle.interleave_two.proofs.ByPlace.{take-by_place, interleaved-by_place, interleaved-deinterleaved, AreBits-by_place, coded_bits-le, slice_index-zeros, deinterleaved-take}
+use Rattle.interleave_two.proofs.ByPlace.{interleaved-by_place, interleaved-deinterleaved, AreBits-by_place, deinterleaved-take}
 use Rattle.interleave_two.proofs.deinterleave.Goals as goal
 
 pub loop-k-init : goal.loop-k-init

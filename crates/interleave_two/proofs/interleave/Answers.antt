@@ -1,8 +1,10 @@
 use Rattle.std.proofs.Common.{◌<◌, slice_index, ap, ◌∙◌, refl, arith}
+use Rattle.bit_lists.proofs.ByPlace.{slice_index-zeros, take-by_place}
 use Rattle.rate_table.specs.Table.{row_of}
+use Rattle.rate_table.proofs.ByRate.{coded_bits-le}
 use Rattle.interleave_two.specs.Place.{interleaved_place, source_of}
 use Rattle.interleave_two.proofs.Ways.{interleaved_place-lt, source_of-interleaved_place, source_of-lt}
-use Rattle.interleave_two.proofs.ByPlace.{take-by_place, deinterleaved-by_place, deinterleaved-interleaved, AreBits-by_place, coded_bits-le, slice_index-zeros, interleaved-take}
+use Rattle.interleave_two.proofs.ByPlace.{deinterleaved-by_place, deinterleaved-interleaved, AreBits-by_place, interleaved-take}
 use Rattle.interleave_two.proofs.interleave.Goals as goal
 
 pub loop-j-init : goal.loop-j-init

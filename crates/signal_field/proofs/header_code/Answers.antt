@@ -2,8 +2,8 @@ use Rattle.std.proofs.Common.{◌≡◌, ◌∙◌, ◌<◌, refl, arith, length
 use Rattle.std.proofs.lemmas.List.{length-set}
 use Rattle.conv_code.specs.Code.{code_of, earlier, parity_a, parity_b}
 use Rattle.conv_code.specs.States.{state_before}
-use Rattle.conv_code.proofs.Coded.{AreBits-code_of}
-use Rattle.signal_field.proofs.Signal.{code_whole, coded_more, length-header_bits_of}
+use Rattle.conv_code.proofs.Coded.{AreBits-code_of, coded_more}
+use Rattle.signal_field.proofs.Signal.{code_whole, length-header_bits_of}
 use Rattle.signal_field.proofs.header_code.Goals as goal
 
 pub loop-k-init : goal.loop-k-init
@@ -20,7 +20,7 @@ loop-k-preserved c =
     let b : c.branch-a.result.1 ≡ parity_b u k = c.branch-a.ensures.b_along u k bits within c.loop-k.invariant.state refl in
     record {
       long = length-set _ _ _ ∙ length-set _ _ _ ∙ c.loop-k.invariant.long;
-      coded = coded_more u k c.branch-a.result.0 c.branch-a.result.1 c.loop-k.code (let long = c.loop-k.invariant.long in omega arith) a b c.loop-k.invariant.coded;
+      coded = coded_more u c.loop-k.code k c.branch-a.result.0 c.branch-a.result.1 (let long = c.loop-k.invariant.long in omega arith) a b c.loop-k.invariant.coded;
       state = c.next_state-state.ensures.after_along u k bits within c.loop-k.invariant.state refl;
       below = c.next_state-state.ensures.below_64;
     }

@@ -4,9 +4,9 @@ use Rattle.std.proofs.lemmas.List.{take_rest}
 use Rattle.std.specs.Fmt.{signed_decimal}
 use Rattle.std.specs.Int.{w16, w64}
 use Rattle.echo_taps.specs.Texts.{SaysSizes}
-use Rattle.echo_taps.proofs.TapWords.{joined, size_within, size_words}
+use Rattle.echo_taps.proofs.TapWords.{size_within, size_words}
 use Rattle.word_grammar.specs.Signs.{IsSigned, SaysSigned}
-use Rattle.word_grammar.proofs.Marks.{whole_at}
+use Rattle.word_grammar.proofs.Marks.{joined, whole_at}
 use Rattle.word_grammar.proofs.Pairs.{pair_rest, pair_short, pair_word}
 use Rattle.echo_taps.proofs.reading.read_sizes.Goals as goal
 

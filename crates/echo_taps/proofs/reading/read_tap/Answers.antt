@@ -4,9 +4,9 @@ use Rattle.std.proofs.lemmas.List.{take_rest}
 use Rattle.std.specs.Fmt.{decimal}
 use Rattle.std.specs.Int.{w16}
 use Rattle.echo_taps.specs.Texts.{AreSizes, SaysTap, sizes_text}
-use Rattle.echo_taps.proofs.TapWords.{bad_tap, delay_words, joined}
+use Rattle.echo_taps.proofs.TapWords.{bad_tap, delay_words}
 use Rattle.word_grammar.specs.Numbers.{SaysNumber}
-use Rattle.word_grammar.proofs.Marks.{whole_at}
+use Rattle.word_grammar.proofs.Marks.{joined, whole_at}
 use Rattle.word_grammar.proofs.Pairs.{pair_rest, pair_short, pair_word}
 use Rattle.echo_taps.proofs.reading.read_tap.Goals as goal
 

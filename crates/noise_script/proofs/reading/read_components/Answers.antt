@@ -4,10 +4,10 @@ use Rattle.std.proofs.lemmas.List.{take_rest}
 use Rattle.std.specs.Fmt.{signed_decimal}
 use Rattle.std.specs.Int.{w16}
 use Rattle.noise_script.specs.Keys.{SaysComponents}
-use Rattle.noise_script.proofs.Items.{fits, joined}
+use Rattle.noise_script.proofs.Items.{fits}
 use Rattle.noise_script.proofs.Keys.{component_words}
 use Rattle.word_grammar.specs.Signs.{IsSigned, SaysSigned}
-use Rattle.word_grammar.proofs.Marks.{whole_at}
+use Rattle.word_grammar.proofs.Marks.{joined, whole_at}
 use Rattle.word_grammar.proofs.Pairs.{pair_rest, pair_short, pair_word}
 use Rattle.noise_script.proofs.reading.read_components.Goals as goal
 

@@ -4,10 +4,9 @@ use Rattle.std.proofs.lemmas.List.{take_rest}
 use Rattle.std.specs.Fmt.{decimal, signed_decimal}
 use Rattle.std.specs.Int.{w16}
 use Rattle.noise_script.specs.Keys.{AreComponents, SaysSpike}
-use Rattle.noise_script.proofs.Items.{joined}
 use Rattle.noise_script.proofs.Keys.{spike_words}
 use Rattle.word_grammar.specs.Numbers.{SaysNumber}
-use Rattle.word_grammar.proofs.Marks.{whole_at}
+use Rattle.word_grammar.proofs.Marks.{joined, whole_at}
 use Rattle.word_grammar.proofs.Pairs.{pair_rest, pair_short, pair_word}
 use Rattle.noise_script.proofs.reading.read_spike.Goals as goal
 

@@ -1,10 +1,9 @@
 use Rattle.std.proofs.Common.{◌+◌, ℕ, List, drop, take, ◌∙◌, arith}
 use Rattle.std.proofs.lemmas.List.{take_rest}
 use Rattle.std.specs.Fmt.{decimal}
-use Rattle.noise_script.proofs.Items.{joined}
 use Rattle.noise_script.proofs.Keys.{two_words}
 use Rattle.word_grammar.specs.Numbers.{IsNumber, SaysNumber}
-use Rattle.word_grammar.proofs.Marks.{whole_at}
+use Rattle.word_grammar.proofs.Marks.{joined, whole_at}
 use Rattle.word_grammar.proofs.Pairs.{pair_rest, pair_short, pair_word}
 use Rattle.noise_script.proofs.reading.read_two.Goals as goal
 

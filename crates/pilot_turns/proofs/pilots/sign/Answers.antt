@@ -1,5 +1,6 @@
 use Rattle.std.proofs.Common.{◌≡◌, ◌<◌, ◌≤◌, ap, sym, ◌∙◌, arith, ℤ, pos, ◌-ℤ◌, neg_ℤ, unsigned_abs, w64, to_z, of_z}
 use Rattle.std.proofs.lemmas.Int.{ints}
+use Rattle.fixed_complex.proofs.Parts.{held_is}
 use Rattle.symbol_builder.proofs.Pilots.{polarity_size}
 use Rattle.pilot_turns.specs.Pilots.{sign_of_pilot}
 use Rattle.pilot_turns.proofs.Signs.{sign_first, sign_last}
@@ -7,9 +8,6 @@ use Rattle.pilot_turns.proofs.pilots.sign.Goals as goal
 
 negation : (z : ℤ) → unsigned_abs z ≤ 1 → to_z w64 (of_z w64 (pos 0 -ℤ to_z w64 (of_z w64 z))) ≡ neg_ℤ z
 negation z small = omega (arith, ints)
-
-as_it_is : (z : ℤ) → unsigned_abs z ≤ 1 → to_z w64 (of_z w64 z) ≡ z
-as_it_is z small = omega (arith, ints)
 
 pub overflow_sub-result : goal.overflow_sub-result
 overflow_sub-result c =
@@ -31,7 +29,7 @@ pub returns-else-k-eq3-clause-sign : goal.returns-else-k-eq3-clause-sign
 returns-else-k-eq3-clause-sign c =
     let small : unsigned_abs c.polarity-else-k-eq3.result ≤ 1 = rw c.polarity-else-k-eq3.ensures (polarity_size _) in
     let first : c.args.k < 3 = omega (arith, c.requires, c.if-k-eq3.false) in
-    as_it_is c.polarity-else-k-eq3.result small ∙ c.polarity-else-k-eq3.ensures ∙ sign_first c.args.n c.args.k first
+    held_is c.polarity-else-k-eq3.result (omega (arith, small)) ∙ c.polarity-else-k-eq3.ensures ∙ sign_first c.args.n c.args.k first
 
 pub returns-else-k-eq3-clause-within : goal.returns-else-k-eq3-clause-within
 returns-else-k-eq3-clause-within c =

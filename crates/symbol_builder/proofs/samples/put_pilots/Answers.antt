@@ -1,7 +1,8 @@
-use Rattle.std.proofs.Common.{◌≡◌, ◌⊎◌, ℕ, List, set, replicate, ap, refl, ◌∙◌, arith, inl, inr, w64, to_z, of_z, ℤ, pos, negsuc, ◌-ℤ◌, ◌*ℤ◌, ◌≤◌, unsigned_abs}
+use Rattle.std.proofs.Common.{◌≡◌, ◌⊎◌, ℕ, List, set, replicate, ap, refl, ◌∙◌, arith, inl, inr, ℤ, pos, negsuc, ◌-ℤ◌, ◌*ℤ◌, ◌≤◌, unsigned_abs}
 use Rattle.std.proofs.lemmas.Int.{ints}
 use Rattle.fixed_complex.specs.declared.Cx.{Cx}
 use Rattle.fixed_complex.specs.Pairs.{zero_pair}
+use Rattle.fixed_complex.proofs.Parts.{held}
 use Rattle.carrier_bins.specs.Carriers.{bin_of}
 use Rattle.carrier_bins.specs.Bins.{all_bins}
 use Rattle.carrier_bins.specs.Signs.{sign_at}
@@ -14,9 +15,6 @@ abbrev pilot_with : ℤ → ℤ → Cx
 pilot_with p carrier = record { re = pos 648 *ℤ (p *ℤ pilot_sign_of carrier); im = pos 0 }
 
 -- a pilot, and its negative, as the code computes them
-abbrev held : ℤ → ℤ
-held z = to_z w64 (of_z w64 z)
-
 abbrev positive : ℤ → Cx
 positive p = record { re = held (pos 648 *ℤ held p); im = pos 0 }
 
