@@ -3,6 +3,7 @@ use Rattle.std.proofs.lemmas.Bool.{cases_lt}
 use Rattle.rate_table.specs.declared.CodeRate.{CodeRate}
 use Rattle.rate_table.specs.declared.CodeRate.TheVariants.{Half, TwoThirds, ThreeQuarters}
 use Rattle.puncture_map.specs.Kept.{kept_count, period_of}
+use Rattle.puncture_map.proofs.Periods.{all_fed, begun, none_kept, walked}
 use Rattle.puncture_map.proofs.Ranks.{kept_count-rises}
 use Rattle.survivor_memory.specs.Survivors.{MemoryView}
 use Rattle.viterbi_lanes.specs.declared.Mark.{Mark}
@@ -10,63 +11,9 @@ use Rattle.viterbi_lanes.specs.Decisions.{marks_of}
 use Rattle.viterbi_lanes.specs.Marks.{StandsFor}
 use Rattle.viterbi_lanes.proofs.Trellis.feed.Goals as goal
 
--- whole periods: none, one more, and those of a count of steps with the steps behind them
-record IsWalked (rate : CodeRate) (count n phase : ℕ) : Type 0 where
-  none : 0 * period_of rate ≡ 0
-  some : 1 ≤ period_of rate
-  few : period_of rate ≤ 3
-  more : (n + 1) * period_of rate ≡ n * period_of rate + period_of rate
-  begins : n * period_of rate % period_of rate ≡ 0
-  within : n < count / period_of rate → n * period_of rate + period_of rate ≤ count
-  all : count ≡ count / period_of rate * period_of rate + count % period_of rate
-  behind : phase < period_of rate → (n * period_of rate + phase) % period_of rate ≡ phase
-  rest : count % period_of rate < period_of rate
-  zero : n ≡ 0 → n * period_of rate ≡ 0
-
-walked : (rate : CodeRate) (count n phase : ℕ) → IsWalked rate count n phase
-walked Half count n phase = record {
-  none = refl;
-  some = omega arith;
-  few = omega arith;
-  more = omega arith;
-  begins = omega arith;
-  within = λ h. omega arith;
-  all = omega arith;
-  behind = λ h. omega arith;
-  rest = omega arith;
-  zero = λ h. omega arith;
-}
-walked TwoThirds count n phase = record {
-  none = refl;
-  some = omega arith;
-  few = omega arith;
-  more = omega arith;
-  begins = omega arith;
-  within = λ h. omega arith;
-  all = omega arith;
-  behind = λ h. omega arith;
-  rest = omega arith;
-  zero = λ h. omega arith;
-}
-walked ThreeQuarters count n phase = record {
-  none = refl;
-  some = omega arith;
-  few = omega arith;
-  more = omega arith;
-  begins = omega arith;
-  within = λ h. omega arith;
-  all = omega arith;
-  behind = λ h. omega arith;
-  rest = omega arith;
-  zero = λ h. omega arith;
-}
-
--- no steps have no marks, and no kept places
+-- no steps have no marks
 no_marks : (rate : CodeRate) (decisions : List ℕ) (trellis : MemoryView) (marks : List (Mark × Mark)) (n : ℕ) → n ≡ 0 → StandsFor trellis marks → StandsFor trellis (marks ++ marks_of rate decisions n)
 no_marks rate decisions trellis marks n none stands = rw (none, append-nil marks) stands
-
-none_kept : (rate : CodeRate) (n : ℕ) → n ≡ 0 → 0 ≡ kept_count rate n
-none_kept rate n none = rw none refl
 
 pub loop-period-init : goal.loop-period-init
 loop-period-init c =
@@ -122,14 +69,6 @@ loop-period-preserved c =
       ];
       entries = λ _. fed.entries;
     }
-
--- the steps of the whole periods
-begun : (rate : CodeRate) (count n p : ℕ) → n ≡ count / p → p ≡ period_of rate → n * period_of rate ≡ count / period_of rate * period_of rate
-begun rate count n p done is = ap (λ k. k * period_of rate) (done ∙ ap (λ q. count / q) is)
-
--- and all steps with those behind them
-all_fed : (rate : CodeRate) (count phase p : ℕ) → phase ≡ count % p → p ≡ period_of rate → count / period_of rate * period_of rate + phase ≡ count
-all_fed rate count phase p end is = omega (arith, end ∙ ap (λ q. count % q) is, (walked rate count 0 0).all)
 
 pub loop-phase-init : goal.loop-phase-init
 loop-phase-init c =
