@@ -2,7 +2,6 @@
 ghost use Rattle.std.specs.Prelude.{◌≡◌, ◌↔◌, ◌+◌, ◌*◌, ◌≤◌, ◌++◌, [], length, vec_len, IfOk, IsOk, IsTrue, OnOk};
 ghost use Rattle.std.specs.Vec.{vec_capacity};
 ghost use Rattle.finding_lines.specs.Lines.{cut_line, frame_line, most_text};
-ghost use Rattle.rate_table.specs.Symbols.{most_octets};
 
 use crate::frames::push_frame;
 use crate::texts::{push_number, push_spaced};
@@ -46,8 +45,7 @@ impl Lines {
     /// Puts the line of a frame behind the others: `frame START MBPS LENGTH SEED HEX` (own). There is room
     /// for twice as many bytes as octets, and 51 more. Takes no memory.
     pub fn put_frame(&mut self, start: u32, rate: Rate, octets: u16, seed: u8, psdu: &[u8])
-        requires octets { length psdu.now ≤ most_octets }
-        requires room { length self.old + 2 * length psdu.now + 51 ≤ most_text }
+        requires { length self.old + 2 * length psdu.now + 51 ≤ most_text }
         ensures line { self.new ≡ self.old ++ frame_line (record {
           start = start;
           rate = rate;

@@ -3,8 +3,8 @@ use Rattle.frame_receiver.specs.Receiving.{frame_of}
 use Rattle.capture_hearing.proofs.MoreSamples.{line_fits, lines_grow, lines_stay}
 use Rattle.capture_hearing.proofs.hearing.hear_sample.Goals as goal
 
-pub put_frame-requires-clause-room : goal.put_frame-requires-clause-room
-put_frame-requires-clause-room c =
+pub put_frame-requires : goal.put_frame-requires
+put_frame-requires c =
     line_fits c.lines_fit.ensures.next c.args.receiver.now c.push.new.self c.args.lines.now c.requires.stood.0 c.args.sample (frame_of c.in-Some.found c.push.new.self.psdu) _ c.requires.room
     (c.in-Some.ensures.stands c.requires.stood.0) (rw c.psdu.ensures.value refl) c.requires.stood.1
 
