@@ -1,8 +1,7 @@
-use Rattle.std.proofs.Common.{ℕ, ◌+◌, ◌*◌, ◌/◌, ◌%◌, ◌≡◌, ◌<◌, ◌≤◌, List, arith, refl, inl, inr, sym, ap, ◌∙◌, ◌++◌, append-nil}
+use Rattle.std.proofs.Common.{ℕ, ◌+◌, ◌*◌, ◌/◌, ◌%◌, ◌≡◌, ◌<◌, ◌≤◌, List, arith, refl, inl, inr, sym, ◌∙◌, ◌++◌, append-nil}
 use Rattle.std.proofs.lemmas.Bool.{cases_lt}
 use Rattle.rate_table.specs.declared.CodeRate.{CodeRate}
-use Rattle.rate_table.specs.declared.CodeRate.TheVariants.{Half, TwoThirds, ThreeQuarters}
-use Rattle.puncture_map.specs.Kept.{kept_count, period_of}
+use Rattle.puncture_map.specs.Kept.{period_of}
 use Rattle.puncture_map.proofs.Periods.{all_fed, begun, none_kept, walked}
 use Rattle.puncture_map.proofs.Ranks.{kept_count-rises}
 use Rattle.survivor_memory.specs.Survivors.{MemoryView}
