@@ -1,5 +1,5 @@
 -- Frames that are drawn, word by word.
-use Rattle.std.proofs.Common.{◌≡◌, ℕ, zero, suc, ◌+◌, ◌%◌, ◌<◌, ◌≤◌, List, ◌∷◌, ◌++◌, [], length, refl, sym, ap, ◌∙◌, subst, lit≤, arith}
+use Rattle.std.proofs.Common.{◌≡◌, ℕ, zero, suc, ◌+◌, ◌%◌, ◌<◌, ◌≤◌, List, ◌∷◌, ◌++◌, [], length, refl, sym, ap, ◌∙◌, subst, arith}
 use Rattle.std.proofs.lemmas.List.FromFn.{get_or-map-range_with_len, length-map-range_with_len, map-range_with_len_more}
 use Rattle.bit_lists.specs.Bits.{AreOctets}
 use Rattle.frame_lists.specs.Near.{SentFrame, samples_of}
@@ -7,11 +7,10 @@ use Rattle.frames_in_noise.specs.Laws.{IsFrame}
 use Rattle.rand_pcg.specs.Lcg.{Lcg, advance, increment_of, next, next_state, started, state_after}
 use Rattle.rand_pcg.specs.Pcg.{multiplier_64, pcg32}
 use Rattle.rand_pcg.proofs.LcgLemmas.{advance_zero}
-use Rattle.rate_table.proofs.ByRate.{by_rate}
 use Rattle.rate_table.proofs.SymbolCounts.{few_symbols}
 use Rattle.rate_table.specs.declared.Rate.{Rate}
-use Rattle.rate_table.specs.Symbols.{IsLength, symbol_count}
-use Rattle.rate_table.specs.Table.{rate_at, row_of}
+use Rattle.rate_table.specs.Symbols.{IsLength}
+use Rattle.rate_table.specs.Table.{rate_at}
 use Rattle.frame_drills.specs.Draws.{drawn, drawn_octets, generator_behind, word_of}
 
 -- ---- words
@@ -82,10 +81,5 @@ drawn_is_frame number = record {
 }
 
 -- ---- what rates bound
-pub noise_bound_from : (rate : Rate) → (8 ≤ (row_of rate).noise_bound) × ((row_of rate).noise_bound ≤ 64)
-noise_bound_from =
-    by_rate (λ rate. (8 ≤ (row_of rate).noise_bound) × ((row_of rate).noise_bound ≤ 64))
-    (lit≤ tt, lit≤ tt) (lit≤ tt, lit≤ tt) (lit≤ tt, lit≤ tt) (lit≤ tt, lit≤ tt) (lit≤ tt, lit≤ tt) (lit≤ tt, lit≤ tt) (lit≤ tt, lit≤ tt) (lit≤ tt, lit≤ tt)
-
 pub samples_most : (frame : SentFrame) → IsLength (length frame.psdu) → samples_of frame ≤ 109680
 samples_most frame long = let symbols = few_symbols frame.rate (length frame.psdu) long.1 in omega arith

@@ -1,6 +1,5 @@
 -- The first capture of a drilled frame is near it.
-use Rattle.std.proofs.Common.{◌≡◌, ℕ, zero, suc, ◌+◌, ◌-◌, ◌<◌, ◌≤◌, List, [], ◌∷◌, ◌++◌, length, All, ap, ◌∙◌, refl, subst, sym, inl, inr, arith, pos, ℤ, ◌+ℤ◌, length-append}
-use Rattle.std.specs.Prelude.{unsigned_abs}
+use Rattle.std.proofs.Common.{◌≡◌, ℕ, zero, suc, ◌+◌, ◌-◌, ◌<◌, ◌≤◌, List, [], ◌∷◌, ◌++◌, length, All, ap, ◌∙◌, subst, sym, inl, inr, arith, pos, ◌+ℤ◌, length-append}
 use Rattle.std.proofs.lemmas.Bool.{cases_lt}
 use Rattle.std.proofs.lemmas.Int.{ints}
 use Rattle.std.proofs.lemmas.List.{get_or-append-add, get_or-replicate, get_or_append_left, length-replicate}
@@ -9,7 +8,8 @@ use Rattle.fixed_complex.specs.declared.Sample.{Sample}
 use Rattle.fixed_complex.specs.PairLists.{entry}
 use Rattle.fixed_complex.specs.Pairs.{zero_pair}
 use Rattle.fixed_complex.specs.Samples.{IsSampleWithin, sample_at}
-use Rattle.lane_kernels.specs.Kernels.{held, held_sum, held_sums}
+use Rattle.lane_kernels.specs.Kernels.{held_sum, held_sums}
+use Rattle.lane_kernels.proofs.Holding.{held-small}
 use Rattle.lane_kernels.proofs.HeldSums.{held_sums-at, length-held_sums}
 use Rattle.noise_script.specs.Effects.{after_items, silence}
 use Rattle.noise_script.specs.Noise.{generator_of, noise_samples}
@@ -18,6 +18,7 @@ use Rattle.noise_script.specs.declared.Item.TheVariants.{Lead, Trail, Uniform}
 use Rattle.noise_script.proofs.Effects.{after_frame}
 use Rattle.noise_script.proofs.Noises.{length-noise, noise_within}
 use Rattle.plain_waves.specs.Bodies.{sent_body}
+use Rattle.rate_table.proofs.ByRate.{noise_bound_from}
 use Rattle.plain_waves.specs.Nearness.{IsNearPlain}
 use Rattle.frame_fields.specs.Frames.{sent_frame}
 use Rattle.frame_fields.proofs.FramePlaces.{length-frame}
@@ -30,18 +31,15 @@ use Rattle.frames_in_noise.proofs.Walking.{noise_is_withstood}
 use Rattle.frame_drills.specs.Captures.{ComesBack, scripted}
 use Rattle.frame_drills.specs.Draws.{drawn}
 use Rattle.frame_drills.specs.Laws.{FirstComesBack, FirstIsInNoise}
-use Rattle.frame_drills.proofs.Drawing.{drawn_is_frame, noise_bound_from}
+use Rattle.frame_drills.proofs.Drawing.{drawn_is_frame}
 
 abbrev silent : Sample
 silent = record { i = pos 0; q = pos 0 }
 
 -- ---- a sample with noise
-held_small : (z : ℤ) → unsigned_abs z ≤ 32767 → held z ≡ z
-held_small z small = grind (arith, ints)
-
 sum_near : (bound more size : ℕ) (sample noise : Sample) (plain : Cx) → IsNearPlain bound sample plain → IsSampleWithin size sample → IsSampleWithin more noise → size + more ≤ 32767 → IsNearPlain (bound + more) (held_sum sample noise) plain
 sum_near bound more size sample noise plain near within loud fits =
-    rw (held_small (sample.i +ℤ noise.i) (omega (arith, ints, within.i, loud.i)), held_small (sample.q +ℤ noise.q) (omega (arith, ints, within.q, loud.q)))
+    rw (held-small (sample.i +ℤ noise.i) (omega (arith, ints, within.i, loud.i)), held-small (sample.q +ℤ noise.q) (omega (arith, ints, within.q, loud.q)))
     (record { i = omega (arith, ints, near.i, loud.i); q = omega (arith, ints, near.q, loud.q) })
 
 -- a list of samples with noise, place by place

@@ -1,18 +1,12 @@
 -- Sums over the numbers of a drill's frames.
 use Rattle.std.proofs.Common.{◌≡◌, ℕ, zero, suc, ◌+◌, ◌<◌, ◌≤◌, Bool, true, false, List, [], ◌∷◌, ◌++◌, length, cond, refl, sym, zero-add, ap, ◌∙◌, arith}
 use Rattle.std.specs.List.{count_by, filter, range_with_len, sum_by}
-use Rattle.std.proofs.lemmas.List.{map-id}
 use Rattle.std.proofs.lemmas.List.Elements.{filter-append}
-use Rattle.std.proofs.lemmas.List.FromFn.{length-range_with_len, map-range_with_len_more}
+use Rattle.std.proofs.lemmas.List.FromFn.{length-range_with_len}
 use Rattle.std.proofs.lemmas.List.Sums.{length-filter, sum_by-append}
+use Rattle.bit_lists.proofs.ByPlace.{one_place_more}
 use Rattle.frame_drills.specs.Draws.{drawn}
 use Rattle.frame_drills.specs.Summaries.{numbers}
-
--- one number more
-pub numbers_more : (count : ℕ) → numbers (count + 1) ≡ numbers count ++ count ∷ []
-numbers_more count =
-    sym (map-id (numbers (count + 1))) ∙ map-range_with_len_more (λ (n : ℕ). n) 0 count count (omega arith)
-    ∙ ap (λ list. list ++ count ∷ []) (map-id (numbers count))
 
 -- tests that agree at numbers keep the same of them
 kept_alike : (test other : ℕ → Bool) (from count : ℕ) → ((n : ℕ) → from ≤ n → n < from + count → test n ≡ other n) → filter test (range_with_len from count) ≡ filter other (range_with_len from count)
@@ -46,13 +40,13 @@ octets_of test count = sum_by (λ number. length (drawn number).psdu) (filter te
 last_of : (test : ℕ → Bool) (count : ℕ) (b : Bool) → test count ≡ b → octets_of test (count + 1) ≡ octets_of test count + cond b (length (drawn count).psdu) 0
 last_of test count true is =
     let kept : filter test (numbers (count + 1)) ≡ filter test (numbers count) ++ count ∷ [] =
-    ap (filter test) (numbers_more count) ∙ filter-append test (numbers count) (count ∷ [])
+    ap (filter test) (one_place_more 0 count count (omega arith)) ∙ filter-append test (numbers count) (count ∷ [])
     ∙ ap (λ b. filter test (numbers count) ++ cond b (count ∷ []) []) is in
     ap (sum_by (λ number. length (drawn number).psdu)) kept ∙ sum_by-append (λ number. length (drawn number).psdu) (filter test (numbers count)) (count ∷ [])
     ∙ ap (λ n. octets_of test count + n) (zero-add (length (drawn count).psdu))
 last_of test count false is =
     let kept : filter test (numbers (count + 1)) ≡ filter test (numbers count) ++ [] =
-    ap (filter test) (numbers_more count) ∙ filter-append test (numbers count) (count ∷ [])
+    ap (filter test) (one_place_more 0 count count (omega arith)) ∙ filter-append test (numbers count) (count ∷ [])
     ∙ ap (λ b. filter test (numbers count) ++ cond b (count ∷ []) []) is in
     ap (sum_by (λ number. length (drawn number).psdu)) kept ∙ sum_by-append (λ number. length (drawn number).psdu) (filter test (numbers count)) []
 

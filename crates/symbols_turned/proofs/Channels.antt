@@ -7,6 +7,7 @@ use Rattle.integer_laws.proofs.Sizes.{size_of_unscaled, sum_of_squares-scaled}
 use Rattle.fixed_complex.specs.declared.Cx.{Cx}
 use Rattle.fixed_complex.specs.Pairs.{IsAtLeastOfSize, IsOfSize, minus, multiple, plus, times}
 use Rattle.fixed_complex.proofs.Pairs.{same_parts}
+use Rattle.fixed_complex.proofs.Sums.{minus_plus}
 use Rattle.fixed_complex.proofs.PairSizes.{size-multiple, size-plus, size-times, wider}
 use Rattle.decided_axis.specs.Channels.{IsCarried, IsEstimated}
 use Rattle.symbols_turned.specs.Turns.{IsTurn, unturned}
@@ -40,17 +41,11 @@ estimate_law s h v w = same_parts _ _ (re s h.re h.im v.re v.im w.re) (im s h.re
     im : (s a b c d w : ℤ) → s *ℤ (a *ℤ d +ℤ b *ℤ c) -ℤ pos 41472 *ℤ (pos 16384 *ℤ w) ≡ pos 41472 *ℤ (s *ℤ d -ℤ pos 16384 *ℤ w) +ℤ s *ℤ ((a -ℤ pos 41472) *ℤ d +ℤ (b -ℤ pos 0) *ℤ c)
     im = ring 6 (λ s a b c d w. s ⊗ (a ⊗ d ⊕ b ⊗ c) ⊖ number (pos 41472) ⊗ (number (pos 16384) ⊗ w) ≗ number (pos 41472) ⊗ (s ⊗ d ⊖ number (pos 16384) ⊗ w) ⊕ s ⊗ ((a ⊖ number (pos 41472)) ⊗ d ⊕ (b ⊖ number (pos 0)) ⊗ c)) refl
 
-back : (v w : Cx) → plus (minus (multiple (pos 1048576) v) (multiple (pos 16384) w)) (multiple (pos 16384) w) ≡ multiple (pos 1048576) v
-back v w = same_parts _ _ (law v.re w.re) (law v.im w.im)
-  where
-    law : (v w : ℤ) → (pos 1048576 *ℤ v -ℤ pos 16384 *ℤ w) +ℤ pos 16384 *ℤ w ≡ pos 1048576 *ℤ v
-    law = ring 2 (λ v w. (number (pos 1048576) ⊗ v ⊖ number (pos 16384) ⊗ w) ⊕ number (pos 16384) ⊗ w ≗ number (pos 1048576) ⊗ v) refl
-
 -- how large a turn that is near is
 told_size : (most : ℕ) (turn v : Cx) → IsTurn turn → IsOfSize (1048576 * most) (minus (multiple (pos 1048576) v) (multiple (pos 16384) turn)) → IsOfSize (16385 + most) v
 told_size most turn v is near =
     let both = size-plus (1048576 * most) (16384 * 1048578) _ _ near (size-multiple 16384 1048578 turn (turn_small turn is)) in
-    let whole : IsOfSize (1048576 * most + 16384 * 1048578) (multiple (pos 1048576) v) = rw (back v turn) at both in
+    let whole : IsOfSize (1048576 * most + 16384 * 1048578) (multiple (pos 1048576) v) = rw (minus_plus (multiple (pos 1048576) v) (multiple (pos 16384) turn)) at both in
     record { size = size_of_unscaled 1048576 v.re v.im (16385 + most) (omega arith) (wider (1048576 * most + 16384 * 1048578) (1048576 * (16385 + most)) (multiple (pos 1048576) v) (omega arith) whole).size }
 
 pub estimated_more : (error most : ℕ) (turn v h : Cx) → IsTurn turn → IsEstimated 1048576 error unturned h → IsOfSize (1048576 * most) (minus (multiple (pos 1048576) v) (multiple (pos 16384) turn))

@@ -11,7 +11,6 @@ use Rattle.fixed_complex.specs.PairLists.{entry}
 use Rattle.fixed_complex.specs.Pairs.{IsAtLeastOfSize, IsOfSize, IsWithin, minus, multiple, squared_size}
 use Rattle.fixed_complex.proofs.Pairs.{same_parts}
 use Rattle.fixed_complex.proofs.PairSizes.{least_squared, within-size}
-use Rattle.lane_kernels.specs.Kernels.{held}
 use Rattle.lane_kernels.proofs.Holding.{held-small}
 use Rattle.decided_axis.specs.Channels.{IsCarried, IsEstimated}
 use Rattle.decided_axis.proofs.Channels.{left_of, signed}
