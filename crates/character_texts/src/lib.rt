@@ -27,13 +27,13 @@ pub trait Alphabet {
         ensures is_value { IfSome result is_value }
         ensures none { IfNone result (¬ is_character character) };
 
-    /// The values of sixteen characters, or none, which it answers where one of the bytes is no character. Takes no memory.
+    /// The values of sixteen bytes at once, or none, which says nothing of them. Takes no memory.
     fn block_of(characters: &[u8]) -> Option<[u8; 16]>
         requires { length characters.now ≡ 16 }
         ensures values { IfSome result (λ values. All is_value values) }
         ensures read { IfSome result (λ values. characters.now ≡ map written values) };
 
-    /// What stands for a value is one of the characters.
+    /// What stands for a value is a character.
     ghost are_characters: { (value : ℕ) → is_value value → is_character (written value) };
 }
 
