@@ -4,18 +4,19 @@
 ghost use Rattle.std.specs.Prelude.{◌≡◌, ◌≢◌, ◌⊎◌, ℕ, List, [], ◌∷◌, ◌+◌, ◌*◌, ◌%◌, ◌^◌, ◌≤◌, ◌++◌, length, slice_index, vec_len, IfOk, OnOk, IsErrOf, IfSome, IfNone};
 ghost use Rattle.bit_lists.specs.Bits.{AreBits, AreOctets, IsBit, bits_of_octet, bits_of_octets, octet_at, octets_of_bits};
 ghost use Rattle.bit_lists.specs.Text.{IsBadPlace, IsCharacter, IsTextOf, text_of_bits};
-ghost use Rattle.bit_lists.specs.declared.TextFault.TheVariants.{NoMemory};
+ghost use Rattle.bit_lists.specs.declared.TextFault.TheVariants.{BadBit};
 ghost use Rattle.byte_lanes.specs.Differences.{differences_of};
+ghost use Rattle.character_texts.specs.declared.ReadFault.TheVariants.{BadCharacter};
 
-use blocks::read_blocks;
 use byte_lanes::differences;
-use character_texts::without_newline;
+use character_texts::{ReadFault, read_values};
+use characters::BitCharacters;
 use std::alloc::{AllocError, Global};
 use std::marker::Model;
 use std::simd::prelude::*;
 use thiserror::Error;
 
-mod blocks;
+mod characters;
 pub mod laws;
 
 // The most octets that the kernel counts at once.
@@ -145,11 +146,14 @@ pub enum TextFault {
     NoMemory(AllocError),
 }
 
-impl From<AllocError> for TextFault {
-    ghost from_gives = { λ e fault. fault ≡ NoMemory e };
+impl From<ReadFault> for TextFault {
+    ghost from_gives = { λ e fault. (at : ℕ) → fault ≡ BadBit at → e ≡ BadCharacter at };
 
-    fn from(e: AllocError) -> TextFault {
-        TextFault::NoMemory(e)
+    fn from(e: ReadFault) -> TextFault {
+        match e {
+            ReadFault::BadCharacter { at } => TextFault::BadBit { at },
+            ReadFault::NoMemory(e) => TextFault::NoMemory(e),
+        }
     }
 }
 
@@ -161,36 +165,7 @@ pub fn read_text(alloc: Global, text: &[u8]) -> Result<Vec<u8>, TextFault>
     ensures bits { IfOk result (λ bits. AreBits bits.items) }
     ensures bad { (at : ℕ) → IsErrOf result (TextFault.BadBit at) → IsBadPlace text.now at }
 {
-    let characters = without_newline(text);
-    let mut bits = read_blocks(alloc, characters)?;
-    for at in bits.len()..characters.len() {
-        match bit_of(characters[at]) {
-            Some(bit) => push_bit(&mut bits, bit)?,
-            None => return Err(TextFault::BadBit { at }),
-        }
-    }
-    Ok(bits)
-}
-
-// The bit that a character stands for.
-fn bit_of(character: u8) -> Option<u8>
-    ensures bit { IfSome result (λ bit. character ≡ 48 + bit) }
-    ensures is_bit { IfSome result IsBit }
-    ensures none { IfNone result (¬ IsCharacter character) }
-{
-    match character {
-        b'0' => Some(0),
-        b'1' => Some(1),
-        _ => None,
-    }
-}
-
-// Appends a bit.
-fn push_bit(bits: &mut Vec<u8>, bit: u8) -> Result<(), AllocError>
-    ensures { OnOk result (bits.new.items ≡ bits.old.items ++ bit ∷ []) }
-{
-    bits.push(bit)?;
-    Ok(())
+    Ok(read_values::<BitCharacters>(alloc, text)?)
 }
 
 // Appends the eight bits of one octet.

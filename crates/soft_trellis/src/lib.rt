@@ -15,8 +15,8 @@ use std::alloc::{AllocError, Global};
 use std::marker::Model;
 use survivor_memory::SurvivorMemory;
 
-mod blocks;
 mod branches;
+mod characters;
 mod fields;
 pub mod laws;
 mod texts;

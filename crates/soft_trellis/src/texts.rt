@@ -1,12 +1,12 @@
 //! The values of a text of hexadecimal digits.
-ghost use Rattle.std.specs.Prelude.{◌≡◌, ℕ, [], ◌∷◌, ◌++◌, IfOk, IfNone, IfSome, IsErrOf, OnOk};
-ghost use Rattle.hex_digits.specs.Digits.{IsDigit};
-ghost use Rattle.soft_trellis.specs.declared.texts.CostFault.TheVariants.{NoMemory};
-ghost use Rattle.soft_trellis.specs.Text.{IsBadPlace, IsTextOf, digit_of};
-ghost use Rattle.soft_trellis.specs.Values.{AreValues, IsValue};
+ghost use Rattle.std.specs.Prelude.{◌≡◌, ℕ, IfOk, IsErrOf};
+ghost use Rattle.character_texts.specs.declared.ReadFault.TheVariants.{BadCharacter};
+ghost use Rattle.soft_trellis.specs.declared.texts.CostFault.TheVariants.{BadCost};
+ghost use Rattle.soft_trellis.specs.Text.{IsBadPlace, IsTextOf};
+ghost use Rattle.soft_trellis.specs.Values.{AreValues};
 
-use crate::blocks::read_blocks;
-use character_texts::without_newline;
+use crate::characters::ValueDigits;
+use character_texts::{ReadFault, read_values};
 use std::alloc::{AllocError, Global};
 use thiserror::Error;
 
@@ -21,11 +21,14 @@ pub enum CostFault {
     NoMemory(AllocError),
 }
 
-impl From<AllocError> for CostFault {
-    ghost from_gives = { λ e fault. fault ≡ NoMemory e };
+impl From<ReadFault> for CostFault {
+    ghost from_gives = { λ e fault. (at : ℕ) → fault ≡ BadCost at → e ≡ BadCharacter at };
 
-    fn from(e: AllocError) -> CostFault {
-        CostFault::NoMemory(e)
+    fn from(e: ReadFault) -> CostFault {
+        match e {
+            ReadFault::BadCharacter { at } => CostFault::BadCost { at },
+            ReadFault::NoMemory(e) => CostFault::NoMemory(e),
+        }
     }
 }
 
@@ -37,34 +40,5 @@ pub fn read_costs(alloc: Global, text: &[u8]) -> Result<Vec<u8>, CostFault>
     ensures values { IfOk result (λ values. AreValues values.items) }
     ensures bad { (at : ℕ) → IsErrOf result (CostFault.BadCost at) → IsBadPlace text.now at }
 {
-    let digits = without_newline(text);
-    let mut values = read_blocks(alloc, digits)?;
-    for at in values.len()..digits.len() {
-        match value_of(digits[at]) {
-            Some(value) => push_value(&mut values, value)?,
-            None => return Err(CostFault::BadCost { at }),
-        }
-    }
-    Ok(values)
-}
-
-// The value that a digit stands for.
-fn value_of(digit: u8) -> Option<u8>
-    ensures value { IfSome result (λ value. digit ≡ digit_of value) }
-    ensures is_value { IfSome result IsValue }
-    ensures none { IfNone result (¬ IsDigit digit) }
-{
-    match digit {
-        b'0'..=b'9' => Some(digit - b'0'),
-        b'a'..=b'f' => Some(digit - b'a' + 10),
-        _ => None,
-    }
-}
-
-// Appends a value.
-fn push_value(values: &mut Vec<u8>, value: u8) -> Result<(), AllocError>
-    ensures { OnOk result (values.new.items ≡ values.old.items ++ value ∷ []) }
-{
-    values.push(value)?;
-    Ok(())
+    Ok(read_values::<ValueDigits>(alloc, text)?)
 }

@@ -1,84 +1,225 @@
-use Rattle.std.proofs.Common.{◌+◌, ◌*◌, ◌≡◌, length, arith, refl, inl, inr, sym, ◌++◌, ◌∷◌, [], append_assoc, append-nil}
+use Rattle.std.proofs.Common.{ℕ, ◌+◌, ◌*◌, ◌/◌, ◌%◌, ◌≡◌, ◌<◌, ◌≤◌, List, arith, refl, inl, inr, sym, ap, ◌∙◌, ◌++◌, append-nil}
 use Rattle.std.proofs.lemmas.Bool.{cases_lt}
-use Rattle.puncture_map.specs.Carried.{carried_pair}
-use Rattle.puncture_map.proofs.Carried.{carried_is}
-use Rattle.puncture_map.proofs.Periods.{at_start, byte_le, rank-counted, rank-within}
-use Rattle.soft_trellis.specs.declared.Soft.TheVariants.{Absent, Cost}
-use Rattle.soft_trellis.specs.Values.{mark_at, marks_of}
-use Rattle.soft_trellis.proofs.Marks.{marks_of_more}
+use Rattle.rate_table.specs.declared.CodeRate.{CodeRate}
+use Rattle.rate_table.specs.declared.CodeRate.TheVariants.{Half, TwoThirds, ThreeQuarters}
+use Rattle.puncture_map.specs.Kept.{kept_count, period_of}
+use Rattle.puncture_map.proofs.Ranks.{kept_count-rises}
+use Rattle.survivor_memory.specs.Survivors.{MemoryView}
+use Rattle.soft_trellis.specs.declared.Soft.{Soft}
+use Rattle.soft_trellis.specs.Values.{marks_of}
+use Rattle.soft_trellis.specs.Marks.{StandsFor}
 use Rattle.soft_trellis.proofs.SoftTrellis.feed_at.Goals as goal
 
-pub mark-a-requires-clause-next : goal.mark-a-requires-clause-next
-mark-a-requires-clause-next c = λ kept.
-    let step = c.loop-step._step in
-    let is = c.kept_in_period-a_is_kept.ensures.first step c.loop-step.invariant.phase in
-    omega (arith, c.loop-step.invariant.next, rank-within c.args.rate (2 * step) step c.args.count (length c.args.values.now) c.kept_in_period-a_is_kept.result.0 (omega arith) (omega arith) c.requires.values is kept)
+-- whole periods: none, one more, and those of a count of steps with the steps behind them
+record IsWalked (rate : CodeRate) (count n phase : ℕ) : Type 0 where
+  none : 0 * period_of rate ≡ 0
+  some : 1 ≤ period_of rate
+  few : period_of rate ≤ 3
+  more : (n + 1) * period_of rate ≡ n * period_of rate + period_of rate
+  begins : n * period_of rate % period_of rate ≡ 0
+  within : n < count / period_of rate → n * period_of rate + period_of rate ≤ count
+  all : count ≡ count / period_of rate * period_of rate + count % period_of rate
+  behind : phase < period_of rate → (n * period_of rate + phase) % period_of rate ≡ phase
+  rest : count % period_of rate < period_of rate
+  zero : n ≡ 0 → n * period_of rate ≡ 0
 
-pub mark-b-requires-clause-next : goal.mark-b-requires-clause-next
-mark-b-requires-clause-next c = λ kept.
-    let step = c.loop-step._step in
-    let first = c.kept_in_period-a_is_kept.ensures.first step c.loop-step.invariant.phase in
-    let second = c.kept_in_period-a_is_kept.ensures.second step c.loop-step.invariant.phase in
-    let next = rank-counted c.args.rate (2 * step) c.from-next.result c.kept_in_period-a_is_kept.result.0 c.from-next.ensures first in
-    omega (arith, c.loop-step.invariant.next, next, rank-within c.args.rate (2 * step + 1) step c.args.count (length c.args.values.now) c.kept_in_period-a_is_kept.result.1 (omega arith) (omega arith) c.requires.values second kept)
-
-pub loop-step-init : goal.loop-step-init
-loop-step-init c = record {
-  stands = λ marks stands. rw (append-nil marks) stands;
-  phase = (at_start c.args.rate).0;
-  within = (at_start c.args.rate).1;
-  next = refl;
+walked : (rate : CodeRate) (count n phase : ℕ) → IsWalked rate count n phase
+walked Half count n phase = record {
+  none = refl;
+  some = omega arith;
   few = omega arith;
-  held = omega arith;
-  room = omega arith;
-  none = λ start. refl;
-  counted = λ some. absurd (omega arith);
+  more = omega arith;
+  begins = omega arith;
+  within = λ h. omega arith;
+  all = omega arith;
+  behind = λ h. omega arith;
+  rest = omega arith;
+  zero = λ h. omega arith;
+}
+walked TwoThirds count n phase = record {
+  none = refl;
+  some = omega arith;
+  few = omega arith;
+  more = omega arith;
+  begins = omega arith;
+  within = λ h. omega arith;
+  all = omega arith;
+  behind = λ h. omega arith;
+  rest = omega arith;
+  zero = λ h. omega arith;
+}
+walked ThreeQuarters count n phase = record {
+  none = refl;
+  some = omega arith;
+  few = omega arith;
+  more = omega arith;
+  begins = omega arith;
+  within = λ h. omega arith;
+  all = omega arith;
+  behind = λ h. omega arith;
+  rest = omega arith;
+  zero = λ h. omega arith;
 }
 
-pub loop-step-preserved : goal.loop-step-preserved
-unfolding carried_pair
-loop-step-preserved c =
-    let rate = c.args.rate in
-    let values = c.args.values.now in
-    let step = c.loop-step._step in
-    let kept = c.kept_in_period-a_is_kept in
-    let first = kept.ensures.first step c.loop-step.invariant.phase in
-    let second = kept.ensures.second step c.loop-step.invariant.phase in
-    let next = rank-counted rate (2 * step) c.from-next.result kept.result.0 c.from-next.ensures first in
-    let after = rank-counted rate (2 * step + 1) c.from-next-in-loop-step.result kept.result.1 c.from-next-in-loop-step.ensures second in
-    let a : c.mark-a.result ≡ mark_at rate values (2 * step) = carried_is (λ value. Cost value) Absent rate values (2 * step) c.loop-step.next kept.result.0 c.mark-a.result first c.loop-step.invariant.next c.mark-a.ensures.mark in
-    let b : c.mark-b.result ≡ mark_at rate values (2 * step + 1) =
-    carried_is (λ value. Cost value) Absent rate values (2 * step + 1) (c.loop-step.next + c.from-next.result) kept.result.1 c.mark-b.result second (omega (arith, next, c.loop-step.invariant.next)) c.mark-b.ensures.mark
-    in
-    let places : 2 * (step + 1) ≡ 2 * step + 1 + 1 = omega arith in
+-- no steps have no marks, and no kept places
+no_marks : (rate : CodeRate) (values : List ℕ) (trellis : MemoryView) (marks : List (Soft × Soft)) (n : ℕ) → n ≡ 0 → StandsFor trellis marks → StandsFor trellis (marks ++ marks_of rate values n)
+no_marks rate values trellis marks n none stands = rw (none, append-nil marks) stands
+
+none_kept : (rate : CodeRate) (n : ℕ) → n ≡ 0 → 0 ≡ kept_count rate n
+none_kept rate n none = rw none refl
+
+pub loop-period-init : goal.loop-period-init
+loop-period-init c =
+    let w = walked c.args.rate c.args.count 0 0 in
     record {
-      stands = λ marks stands.
-          let before = marks_of rate values step in
-          let pair : before ++ (c.mark-a.result, c.mark-b.result) ∷ [] ≡ marks_of rate values (step + 1) = rw (a, b) (sym (marks_of_more rate values step)) in
-          let stood = c.step.ensures.appended (marks ++ before) (c.loop-step.invariant.stands marks stands) in
-          rw (append_assoc, pair) at stood;
-      phase = sym (c.next_in_period-phase.ensures.next step c.loop-step.invariant.phase);
-      within = c.next_in_period-phase.ensures.within;
-      next = rw places (omega (arith, next, after, c.loop-step.invariant.next));
-      few = omega (arith, c.loop-step.invariant.few, c.from-next.ensures, byte_le kept.result.0, c.from-next-in-loop-step.ensures, byte_le kept.result.1);
-      held = omega arith;
-      room = omega arith;
+      stands = λ marks stands. no_marks c.args.rate c.args.values.now _ marks (0 * period_of c.args.rate) w.none stands;
+      next = none_kept c.args.rate (0 * period_of c.args.rate) w.none;
+      few = omega arith;
+      held = omega (arith, w.none);
+      room = refl;
+      none = λ start. refl;
+      counted = λ some. absurd (omega arith);
+    }
+
+pub feed_period-next-requires-clause-room : goal.feed_period-next-requires-clause-room
+feed_period-next-requires-clause-room c =
+    let w = walked c.args.rate c.args.count c.loop-period._period 0 in
+    omega (arith, w.within (rw c.period.ensures at c.loop-period-test.true), c.loop-period.invariant.held, c.loop-period.invariant.room, c.requires.room)
+
+pub feed_period-next-requires-clause-begins : goal.feed_period-next-requires-clause-begins
+feed_period-next-requires-clause-begins c =
+    let rate = c.args.rate in
+    let n = c.loop-period._period in
+    let w = walked rate c.args.count n 0 in
+    let within = w.within (rw c.period.ensures at c.loop-period-test.true) in
+    (n * period_of rate, (w.begins, (c.loop-period.invariant.next, omega (arith, kept_count-rises rate (n * period_of rate + period_of rate) c.args.count within, c.requires.values))))
+
+pub feed_period-next-requires-clause-few : goal.feed_period-next-requires-clause-few
+feed_period-next-requires-clause-few c =
+    let w = walked c.args.rate c.args.count c.loop-period._period 0 in
+    omega (arith, w.within (rw c.period.ensures at c.loop-period-test.true), c.loop-period.invariant.few, c.requires.few)
+
+pub loop-period-preserved : goal.loop-period-preserved
+loop-period-preserved c =
+    let rate = c.args.rate in
+    let n = c.loop-period._period in
+    let p = period_of rate in
+    let w = walked rate c.args.count n 0 in
+    let before = c.loop-period.invariant in
+    let fed = c.feed_period-next.ensures in
+    let more : n * p + p ≡ (n + 1) * p = sym w.more in
+    record {
+      stands = λ marks stands. rw more at (fed.appended marks (n * p) w.begins before.next (before.stands marks stands));
+      next = rw more at (fed.next (n * p) w.begins before.next);
+      few = omega (arith, fed.few, more, before.few);
+      held = omega (arith, fed.held, more, before.held);
+      room = omega (arith, fed.room, before.room);
       none = λ start. absurd (omega arith);
-      counted = λ _. elim (cases_lt 0 step) [
-        | inl more ↦ omega (arith, c.step.ensures.counted, c.loop-step.invariant.counted more)
-        | inr start ↦ omega (arith, c.step.ensures.counted, c.loop-step.invariant.none (omega arith))
+      counted = λ _. elim (cases_lt 0 n) [
+        | inl some ↦ omega (arith, fed.counted, before.counted some, more)
+        | inr start ↦ omega (arith, fed.counted, before.none (omega arith), more, w.zero (omega arith))
       ];
     }
 
-pub overflow_add-next : goal.overflow_add-next
-overflow_add-next c = record { fits = omega (arith, c.loop-step.invariant.few, c.from-next.ensures, byte_le c.kept_in_period-a_is_kept.result.0) }
+-- the steps of the whole periods
+begun : (rate : CodeRate) (count n p : ℕ) → n ≡ count / p → p ≡ period_of rate → n * period_of rate ≡ count / period_of rate * period_of rate
+begun rate count n p done is = ap (λ k. k * period_of rate) (done ∙ ap (λ q. count / q) is)
 
-pub overflow_add-next-in-loop-step : goal.overflow_add-next-in-loop-step
-overflow_add-next-in-loop-step c = record {
-  fits = omega (arith, c.loop-step.invariant.few, c.from-next.ensures, byte_le c.kept_in_period-a_is_kept.result.0, c.from-next-in-loop-step.ensures, byte_le c.kept_in_period-a_is_kept.result.1);
-}
+-- and all steps with those behind them
+all_fed : (rate : CodeRate) (count phase p : ℕ) → phase ≡ count % p → p ≡ period_of rate → count / period_of rate * period_of rate + phase ≡ count
+all_fed rate count phase p end is = omega (arith, end ∙ ap (λ q. count % q) is, (walked rate count 0 0).all)
+
+pub loop-phase-init : goal.loop-phase-init
+loop-phase-init c =
+    let rate = c.args.rate in
+    let count = c.args.count in
+    let n = c.loop-period._period in
+    let p = period_of rate in
+    let w = walked rate count n 0 in
+    let before = c.loop-period.invariant in
+    let whole = begun rate count n c.period.result (omega arith) c.period.ensures in
+    let start : count / p * p ≡ count / p * p + 0 = omega arith in
+    record {
+      stands = λ marks stands. rw start at stands;
+      next = rw (whole ∙ start) at before.next;
+      few = omega (arith, whole, before.few);
+      held = omega arith;
+      room = refl;
+      none = λ _. refl;
+      counted = λ some. absurd (omega arith);
+    }
+
+pub feed_step-next-requires-clause-room : goal.feed_step-next-requires-clause-room
+feed_step-next-requires-clause-room c =
+    let rate = c.args.rate in
+    let w = walked rate c.args.count 0 0 in
+    let whole = begun rate c.args.count c.loop-period._period c.period.result (omega arith) c.period.ensures in
+    omega (arith, w.all, whole, rw c.period-2.ensures at c.loop-phase-test.true, c.loop-phase.invariant.held, c.loop-phase.invariant.room, c.loop-period.invariant.held, c.loop-period.invariant.room, c.requires.room)
+
+pub feed_step-next-requires-clause-at : goal.feed_step-next-requires-clause-at
+feed_step-next-requires-clause-at c =
+    let rate = c.args.rate in
+    let count = c.args.count in
+    let phase = c.loop-phase.phase in
+    let base = count / period_of rate * period_of rate in
+    let w = walked rate count (count / period_of rate) phase in
+    let below : phase < count % period_of rate = rw c.period-2.ensures at c.loop-phase-test.true in
+    let within : base + phase + 1 ≤ count = omega (arith, w.all, below) in
+    (base + phase, (w.behind (omega (arith, below, w.rest)), (c.loop-phase.invariant.next, omega (arith, kept_count-rises rate (base + phase + 1) count within, c.requires.values))))
+
+pub loop-phase-preserved : goal.loop-phase-preserved
+loop-phase-preserved c =
+    let rate = c.args.rate in
+    let count = c.args.count in
+    let phase = c.loop-phase.phase in
+    let base = count / period_of rate * period_of rate in
+    let w = walked rate count (count / period_of rate) phase in
+    let below : phase < count % period_of rate = rw c.period-2.ensures at c.loop-phase-test.true in
+    let stands_at = w.behind (omega (arith, below, w.rest)) in
+    let before = c.loop-phase.invariant in
+    let fed = c.feed_step-next.ensures in
+    let more : base + phase + 1 ≡ base + (phase + 1) = omega arith in
+    record {
+      stands = λ marks stands. rw more at (fed.appended marks (base + phase) stands_at before.next (before.stands marks stands));
+      next = rw more at (fed.next (base + phase) stands_at before.next);
+      few = omega (arith, fed.few, before.few);
+      held = omega (arith, fed.held, before.held);
+      room = omega (arith, fed.room, before.room);
+      none = λ start. absurd (omega arith);
+      counted = λ _. elim (cases_lt 0 phase) [
+        | inl some ↦ omega (arith, fed.counted, before.counted some)
+        | inr start ↦ omega (arith, fed.counted, before.none (omega arith))
+      ];
+    }
 
 pub returns-clause-appended : goal.returns-clause-appended
-returns-clause-appended c =
-    let all : c.loop-step._step ≡ c.args.count = omega arith in
-    rw (← all) c.loop-step.invariant.stands
+returns-clause-appended c = λ marks stands.
+    let rate = c.args.rate in
+    let whole = begun rate c.args.count c.loop-period._period c.period.result (omega arith) c.period.ensures in
+    let all = all_fed rate c.args.count c.loop-phase.phase c.period-2.result (omega arith) c.period-2.ensures in
+    rw all at (c.loop-phase.invariant.stands marks (rw whole at (c.loop-period.invariant.stands marks stands)))
+
+pub returns-clause-held : goal.returns-clause-held
+returns-clause-held c =
+    let rate = c.args.rate in
+    let whole = begun rate c.args.count c.loop-period._period c.period.result (omega arith) c.period.ensures in
+    let all = all_fed rate c.args.count c.loop-phase.phase c.period-2.result (omega arith) c.period-2.ensures in
+    omega (arith, whole, all, c.loop-phase.invariant.held, c.loop-period.invariant.held)
+
+pub returns-clause-counted : goal.returns-clause-counted
+returns-clause-counted c =
+    let rate = c.args.rate in
+    let n = c.loop-period._period in
+    let whole = begun rate c.args.count n c.period.result (omega arith) c.period.ensures in
+    let all = all_fed rate c.args.count c.loop-phase.phase c.period-2.result (omega arith) c.period-2.ensures in
+    let zero = (walked rate c.args.count n 0).zero in
+    elim (cases_lt 0 n) [
+      | inl some ↦ elim (cases_lt 0 c.loop-phase.phase) [
+        | inl behind ↦ omega (arith, whole, all, c.loop-period.invariant.counted some, c.loop-phase.invariant.counted behind)
+        | inr none ↦ omega (arith, whole, all, c.loop-period.invariant.counted some, c.loop-phase.invariant.none (omega arith))
+      ]
+      | inr start ↦ elim (cases_lt 0 c.loop-phase.phase) [
+        | inl behind ↦ omega (arith, whole, all, zero (omega arith), c.loop-period.invariant.none (omega arith), c.loop-phase.invariant.counted behind)
+        | inr none ↦ absurd (omega (arith, whole, all, zero (omega arith), c.requires.some))
+      ]
+    ]

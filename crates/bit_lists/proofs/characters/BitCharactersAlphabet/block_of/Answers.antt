@@ -7,7 +7,7 @@ use Rattle.std.proofs.lemmas.Simd.{zip2_splat}
 use Rattle.byte_lanes.proofs.ByteMasks.{differ_mask, same_by_mask}
 use Rattle.bit_lists.specs.Bits.{AreBits, IsBit}
 use Rattle.bit_lists.specs.Text.{characters_of}
-use Rattle.bit_lists.proofs.blocks.bits_of_sixteen.Goals as goal
+use Rattle.bit_lists.proofs.characters.BitCharactersAlphabet.block_of.Goals as goal
 
 -- the lowest bits of sixteen characters, and the characters of these, as lanes
 abbrev low : List ℕ → List ℕ
@@ -44,8 +44,8 @@ read_back xs long none =
     let same : plus (low xs) ≡ take 16 xs = same_by_mask (plus (low xs)) (take 16 xs) (omega arith) (omega arith) none in
     sym whole ∙ sym same ∙ sums ∙ written (low xs) (AreBits-low xs long)
 
-pub returns-then-written-characters-eq0-clause-bits : goal.returns-then-written-characters-eq0-clause-bits
-returns-then-written-characters-eq0-clause-bits c = AreBits-low c.args.characters.now c.requires
+pub returns-then-written-characters-eq0-clause-values : goal.returns-then-written-characters-eq0-clause-values
+returns-then-written-characters-eq0-clause-values c = AreBits-low c.args.characters.now c.requires
 
 pub returns-then-written-characters-eq0-clause-read : goal.returns-then-written-characters-eq0-clause-read
 returns-then-written-characters-eq0-clause-read c = read_back c.args.characters.now c.requires c.if-written-characters-eq0.true

@@ -8,7 +8,7 @@ use Rattle.std.proofs.lemmas.Simd.{length-sel_l, length-zip2, zip2_splat}
 use Rattle.byte_lanes.proofs.ByteMasks.{differ_mask, same_by_mask}
 use Rattle.soft_trellis.specs.Text.{digit_of}
 use Rattle.soft_trellis.specs.Values.{AreValues, IsValue}
-use Rattle.soft_trellis.proofs.blocks.values_of_sixteen.Goals as goal
+use Rattle.soft_trellis.proofs.characters.ValueDigitsAlphabet.block_of.Goals as goal
 
 -- numbers below 16 made of any lanes
 abbrev low : List ℕ → List ℕ
