@@ -1,8 +1,8 @@
-use Rattle.std.proofs.Common.{ℕ, ◌+◌, ◌*◌, ◌/◌, ◌%◌, ◌≡◌, ◌<◌, ◌≤◌, List, arith, refl, inl, inr, sym, ap, ◌∙◌, ◌++◌, append-nil}
+use Rattle.std.proofs.Common.{ℕ, ◌+◌, ◌*◌, ◌/◌, ◌%◌, ◌≡◌, ◌<◌, ◌≤◌, List, arith, refl, inl, inr, sym, ◌∙◌, ◌++◌, append-nil}
 use Rattle.std.proofs.lemmas.Bool.{cases_lt}
 use Rattle.rate_table.specs.declared.CodeRate.{CodeRate}
-use Rattle.rate_table.specs.declared.CodeRate.TheVariants.{Half, TwoThirds, ThreeQuarters}
-use Rattle.puncture_map.specs.Kept.{kept_count, period_of}
+use Rattle.puncture_map.specs.Kept.{period_of}
+use Rattle.puncture_map.proofs.Periods.{all_fed, begun, none_kept, walked}
 use Rattle.puncture_map.proofs.Ranks.{kept_count-rises}
 use Rattle.survivor_memory.specs.Survivors.{MemoryView}
 use Rattle.soft_trellis.specs.declared.Soft.{Soft}
@@ -10,63 +10,9 @@ use Rattle.soft_trellis.specs.Values.{marks_of}
 use Rattle.soft_trellis.specs.Marks.{StandsFor}
 use Rattle.soft_trellis.proofs.SoftTrellis.feed_at.Goals as goal
 
--- whole periods: none, one more, and those of a count of steps with the steps behind them
-record IsWalked (rate : CodeRate) (count n phase : ℕ) : Type 0 where
-  none : 0 * period_of rate ≡ 0
-  some : 1 ≤ period_of rate
-  few : period_of rate ≤ 3
-  more : (n + 1) * period_of rate ≡ n * period_of rate + period_of rate
-  begins : n * period_of rate % period_of rate ≡ 0
-  within : n < count / period_of rate → n * period_of rate + period_of rate ≤ count
-  all : count ≡ count / period_of rate * period_of rate + count % period_of rate
-  behind : phase < period_of rate → (n * period_of rate + phase) % period_of rate ≡ phase
-  rest : count % period_of rate < period_of rate
-  zero : n ≡ 0 → n * period_of rate ≡ 0
-
-walked : (rate : CodeRate) (count n phase : ℕ) → IsWalked rate count n phase
-walked Half count n phase = record {
-  none = refl;
-  some = omega arith;
-  few = omega arith;
-  more = omega arith;
-  begins = omega arith;
-  within = λ h. omega arith;
-  all = omega arith;
-  behind = λ h. omega arith;
-  rest = omega arith;
-  zero = λ h. omega arith;
-}
-walked TwoThirds count n phase = record {
-  none = refl;
-  some = omega arith;
-  few = omega arith;
-  more = omega arith;
-  begins = omega arith;
-  within = λ h. omega arith;
-  all = omega arith;
-  behind = λ h. omega arith;
-  rest = omega arith;
-  zero = λ h. omega arith;
-}
-walked ThreeQuarters count n phase = record {
-  none = refl;
-  some = omega arith;
-  few = omega arith;
-  more = omega arith;
-  begins = omega arith;
-  within = λ h. omega arith;
-  all = omega arith;
-  behind = λ h. omega arith;
-  rest = omega arith;
-  zero = λ h. omega arith;
-}
-
--- no steps have no marks, and no kept places
+-- no steps have no marks
 no_marks : (rate : CodeRate) (values : List ℕ) (trellis : MemoryView) (marks : List (Soft × Soft)) (n : ℕ) → n ≡ 0 → StandsFor trellis marks → StandsFor trellis (marks ++ marks_of rate values n)
 no_marks rate values trellis marks n none stands = rw (none, append-nil marks) stands
-
-none_kept : (rate : CodeRate) (n : ℕ) → n ≡ 0 → 0 ≡ kept_count rate n
-none_kept rate n none = rw none refl
 
 pub loop-period-init : goal.loop-period-init
 loop-period-init c =
@@ -120,14 +66,6 @@ loop-period-preserved c =
         | inr start ↦ omega (arith, fed.counted, before.none (omega arith), more, w.zero (omega arith))
       ];
     }
-
--- the steps of the whole periods
-begun : (rate : CodeRate) (count n p : ℕ) → n ≡ count / p → p ≡ period_of rate → n * period_of rate ≡ count / period_of rate * period_of rate
-begun rate count n p done is = ap (λ k. k * period_of rate) (done ∙ ap (λ q. count / q) is)
-
--- and all steps with those behind them
-all_fed : (rate : CodeRate) (count phase p : ℕ) → phase ≡ count % p → p ≡ period_of rate → count / period_of rate * period_of rate + phase ≡ count
-all_fed rate count phase p end is = omega (arith, end ∙ ap (λ q. count % q) is, (walked rate count 0 0).all)
 
 pub loop-phase-init : goal.loop-phase-init
 loop-phase-init c =
