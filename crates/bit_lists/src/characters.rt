@@ -17,8 +17,10 @@ impl Alphabet for BitCharacters {
 
     ghost written = { character_of };
 
-    ghost are_characters = { λ bit is.
-        elim (cases_lt bit 1) [ inl zero ↦ inl (Prim.omega arith) | inr one ↦ inr (Prim.omega arith) ] };
+    ghost are_characters = { λ bit is. elim (cases_lt bit 1) [
+      | inl zero ↦ inl (Prim.omega arith)
+      | inr one ↦ inr (Prim.omega arith)
+    ] };
 
     fn value_of(character: u8) -> Option<u8> {
         match character {

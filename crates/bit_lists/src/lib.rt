@@ -1,9 +1,9 @@
 //! Bits as lists: the bits of octets (IEEE Std 802.11-2012, clause 18), and the text of bits.
 #![tactic(auto)]
 
-ghost use Rattle.std.specs.Prelude.{◌≡◌, ◌≢◌, ◌⊎◌, ℕ, List, [], ◌∷◌, ◌+◌, ◌*◌, ◌%◌, ◌^◌, ◌≤◌, ◌++◌, length, slice_index, vec_len, IfOk, OnOk, IsErrOf, IfSome, IfNone};
-ghost use Rattle.bit_lists.specs.Bits.{AreBits, AreOctets, IsBit, bits_of_octet, bits_of_octets, octet_at, octets_of_bits};
-ghost use Rattle.bit_lists.specs.Text.{IsBadPlace, IsCharacter, IsTextOf, text_of_bits};
+ghost use Rattle.std.specs.Prelude.{◌≡◌, ◌≢◌, ◌⊎◌, ℕ, List, [], ◌∷◌, ◌+◌, ◌*◌, ◌%◌, ◌^◌, ◌≤◌, ◌++◌, length, slice_index, vec_len, IfOk, OnOk, IsErrOf};
+ghost use Rattle.bit_lists.specs.Bits.{AreBits, AreOctets, bits_of_octet, bits_of_octets, octet_at, octets_of_bits};
+ghost use Rattle.bit_lists.specs.Text.{IsBadPlace, IsTextOf, text_of_bits};
 ghost use Rattle.bit_lists.specs.declared.TextFault.TheVariants.{BadBit};
 ghost use Rattle.byte_lanes.specs.Differences.{differences_of};
 ghost use Rattle.character_texts.specs.declared.ReadFault.TheVariants.{BadCharacter};

@@ -20,9 +20,13 @@ impl Alphabet for ValueDigits {
     ghost written = { digit_of };
 
     ghost are_characters = { λ value is. elim (cases_lt value 10) [
-      | inl low ↦ let figure = cond-true (ltb value 10) (48 + value) (87 + value) (lt-ltb value 10 low)
+      | inl low ↦
+          let small = lt-ltb value 10 low
+          in let figure = cond-true (ltb value 10) (48 + value) (87 + value) small
           in inl (Prim.omega (arith, figure), Prim.omega (arith, figure))
-      | inr high ↦ let letter = cond-false (ltb value 10) (48 + value) (87 + value) (le-ltb value 10 (Prim.omega arith))
+      | inr not ↦
+          let large = le-ltb value 10 (Prim.omega arith)
+          in let letter = cond-false (ltb value 10) (48 + value) (87 + value) large
           in inr (Prim.omega (arith, letter), Prim.omega (arith, letter))
     ] };
 
