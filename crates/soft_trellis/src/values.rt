@@ -26,26 +26,6 @@ impl SoftTrellis {
         ensures held { length self.new.rows ≡ length self.old.rows + count }
         ensures counted { steps.new ≡ raised_by count steps.old }
     {
-        match rate {
-            CodeRate::Half => self.feed_at(CodeRate::Half, values, count, steps),
-            CodeRate::TwoThirds => self.feed_at(CodeRate::TwoThirds, values, count, steps),
-            CodeRate::ThreeQuarters => self.feed_at(CodeRate::ThreeQuarters, values, count, steps),
-        }
-    }
-
-    // The same, which is compiled for each code rate by itself.
-    #[inline(always)]
-    fn feed_at(&mut self, rate: CodeRate, values: &[u8], count: usize, steps: &mut Steps)
-        requires some { 1 ≤ count }
-        requires few { count ≤ 2 ^ 20 }
-        requires room { length self.old.rows + count ≤ self.old.room }
-        requires are { AreValues values.now }
-        requires values { kept_count rate count ≤ length values.now }
-        ensures appended { (marks : List (Soft × Soft)) → StandsFor self.old marks
-            → StandsFor self.new (marks ++ marks_of rate values.now count) }
-        ensures held { length self.new.rows ≡ length self.old.rows + count }
-        ensures counted { steps.new ≡ raised_by count steps.old }
-    {
         let mut next = 0;
         for _period in 0..count / period(rate) {
             next = self.feed_period(rate, values, next, steps);

@@ -8,7 +8,7 @@ use Rattle.survivor_memory.specs.Survivors.{MemoryView}
 use Rattle.soft_trellis.specs.declared.Soft.{Soft}
 use Rattle.soft_trellis.specs.Values.{marks_of}
 use Rattle.soft_trellis.specs.Marks.{StandsFor}
-use Rattle.soft_trellis.proofs.SoftTrellis.feed_at.Goals as goal
+use Rattle.soft_trellis.proofs.SoftTrellis.feed.Goals as goal
 
 -- no steps have no marks
 no_marks : (rate : CodeRate) (values : List ℕ) (trellis : MemoryView) (marks : List (Soft × Soft)) (n : ℕ) → n ≡ 0 → StandsFor trellis marks → StandsFor trellis (marks ++ marks_of rate values n)

@@ -4,7 +4,7 @@ use Rattle.puncture_map.specs.Kept.{kept_count, period_of}
 use Rattle.soft_trellis.specs.declared.Soft.{Soft}
 use Rattle.soft_trellis.specs.Values.{marks_of}
 use Rattle.soft_trellis.specs.Marks.{StandsFor}
-use Rattle.soft_trellis.proofs.SoftTrellis.feed_at.Given as goal
+use Rattle.soft_trellis.proofs.SoftTrellis.feed.Given as goal
 
 abbrev pub invariant-loop-period : goal.invariant-loop-period
 invariant-loop-period l = record {
