@@ -3,10 +3,9 @@
 
 ghost use Rattle.std.specs.Prelude.{◌≡◌, ◌≢◌, ◌⊎◌, ℕ, List, [], ◌∷◌, ◌+◌, ◌*◌, ◌%◌, ◌^◌, ◌≤◌, ◌++◌, length, slice_index, vec_len, IfOk, OnOk, IsErrOf};
 ghost use Rattle.bit_lists.specs.Bits.{AreBits, AreOctets, bits_of_octet, bits_of_octets, octet_at, octets_of_bits};
+ghost use Rattle.bit_lists.specs.Faults.{fault_of};
 ghost use Rattle.bit_lists.specs.Text.{IsBadPlace, IsTextOf, text_of_bits};
-ghost use Rattle.bit_lists.specs.declared.TextFault.TheVariants.{BadBit};
 ghost use Rattle.byte_lanes.specs.Differences.{differences_of};
-ghost use Rattle.character_texts.specs.declared.ReadFault.TheVariants.{BadCharacter};
 
 use byte_lanes::differences;
 use character_texts::{ReadFault, read_values};
@@ -147,7 +146,7 @@ pub enum TextFault {
 }
 
 impl From<ReadFault> for TextFault {
-    ghost from_gives = { λ e fault. (at : ℕ) → fault ≡ BadBit at → e ≡ BadCharacter at };
+    ghost from_gives = { λ e fault. fault ≡ fault_of e };
 
     fn from(e: ReadFault) -> TextFault {
         match e {

@@ -1,7 +1,6 @@
 //! The values of a text of hexadecimal digits.
 ghost use Rattle.std.specs.Prelude.{◌≡◌, ℕ, IfOk, IsErrOf};
-ghost use Rattle.character_texts.specs.declared.ReadFault.TheVariants.{BadCharacter};
-ghost use Rattle.soft_trellis.specs.declared.texts.CostFault.TheVariants.{BadCost};
+ghost use Rattle.soft_trellis.specs.Faults.{fault_of};
 ghost use Rattle.soft_trellis.specs.Text.{IsBadPlace, IsTextOf};
 ghost use Rattle.soft_trellis.specs.Values.{AreValues};
 
@@ -22,7 +21,7 @@ pub enum CostFault {
 }
 
 impl From<ReadFault> for CostFault {
-    ghost from_gives = { λ e fault. (at : ℕ) → fault ≡ BadCost at → e ≡ BadCharacter at };
+    ghost from_gives = { λ e fault. fault ≡ fault_of e };
 
     fn from(e: ReadFault) -> CostFault {
         match e {

@@ -1,5 +1,5 @@
 -- Steps in a row: the entries are lowered once, so far that they stay below 255.
-use Rattle.std.proofs.Common.{◌≡◌, ℕ, ◌+◌, ◌-◌, ◌*◌, ◌/◌, ◌%◌, ◌<◌, ◌≤◌, List, [], ◌∷◌, ◌++◌, length, get_or, take, set, ap, refl, ◌∙◌, ◌⊎◌, inl, inr, arith}
+use Rattle.std.proofs.Common.{◌≡◌, ℕ, ◌+◌, ◌-◌, ◌*◌, ◌/◌, ◌%◌, ◌<◌, ◌≤◌, List, [], ◌∷◌, ◌++◌, length, get_or, min, take, set, ap, refl, ◌∙◌, ◌⊎◌, inl, inr, arith}
 use Rattle.std.proofs.lemmas.Bool.{cases_lt}
 use Rattle.std.proofs.lemmas.Grind.{take-set_at}
 use Rattle.std.proofs.lemmas.List.{length-set, take_more_set}
@@ -9,7 +9,7 @@ use Rattle.survivor_memory.specs.Costs.{AreBranchCosts, most_cost}
 use Rattle.survivor_memory.specs.Survivors.{AreLowered, AreNextEntries, HasEntryAtMost, Holds, MemoryView, through_lower, through_higher}
 use Rattle.survivor_memory.proofs.Holding.{entry_le}
 use Rattle.survivor_memory.proofs.Leading.{branch_cost_is, branch_cost_le, leads_lt}
-use Rattle.survivor_memory.proofs.Stepping.{holds_push}
+use Rattle.survivor_memory.proofs.Stepping.{holds_push, holds_push_lowered}
 
 -- a memory that holds pairs, with some entry at most so much
 abbrev pub HoldsLow : ℕ → ℕ → List ℕ → ℕ → List ℕ → ℕ → List PairCosts → Type 0
@@ -19,13 +19,15 @@ HoldsLow most bound entries base rows room pairs =
 -- what is taken off the entries goes to the base
 pub holds_lowered : (most limit by : ℕ) (entries lowered rows : List ℕ) (base room : ℕ) (pairs : List PairCosts) → 7 * most < 255
     → Holds most (record { entries = entries; base = base; rows = rows; room = room }) pairs → AreLowered entries by lowered
-    → (get_or entries 0 0 ≤ limit) ⊎ ((s : ℕ) × (s < 64) × (get_or entries s 0 ≡ by)) → limit ≤ 254 - 7 * most
+    → HasEntryAtMost limit entries ⊎ ((s : ℕ) × (s < 64) × (get_or entries s 0 ≡ by)) → limit ≤ 254 - 7 * most
     → HoldsLow most limit lowered (base + by) rows room pairs
 holds_lowered most limit by entries lowered rows base room pairs few holds off low_at small =
     let old : MemoryView = record { entries = entries; base = base; rows = rows; room = room } in
     let (least, below, least_is) = holds.low in
     let is_low : HasEntryAtMost limit lowered = elim low_at [
-      | inl first ↦ (0, omega arith, omega (arith, off.less 0 (omega arith) (omega arith), first))
+      | inl some ↦
+          let (s, h, at) = some in
+          (s, h, omega (arith, off.less s h (omega arith), at))
       | inr found ↦
           let (s, h, at) = found in
           (s, h, omega (arith, off.less s h (omega (arith, at, off.within least below, least_is)), at))
@@ -92,6 +94,48 @@ holds_next most bound entries next rows base room row costs pair pairs small bra
 
     through_high : (s : ℕ) → s < 64 → (t : ℕ) → s / 2 + 32 ≡ t → through_higher entries costs.higher s ≤ get_or entries t 0 + most
     through_high s h t e = rw e (omega (arith, branch_higher_le s h))
+
+-- one pair on, where something is taken off
+pub holds_next_lowered : (most by : ℕ) (entries next lowered rows : List ℕ) (base room row : ℕ) (costs : BranchCosts) (pair : PairCosts) (pairs : List PairCosts) → 7 * most < 255
+    → AreBranchCosts pair costs → most_cost pair ≤ most → AreNextEntries entries costs.lower costs.higher next row → AreLowered next by lowered
+    → HasEntryAtMost (254 - 7 * most) next ⊎ ((s : ℕ) × (s < 64) × (get_or next s 0 ≡ by))
+    → Holds most (record { entries = entries; base = base; rows = rows; room = room }) pairs
+    → Holds most (record { entries = lowered; base = base + by; rows = rows ++ row ∷ []; room = room }) (pairs ++ pair ∷ [])
+holds_next_lowered most by entries next lowered rows base room row costs pair pairs few branches light is off low_at holds =
+    let low = through_lower entries costs.lower in
+    let high = through_higher entries costs.higher in
+    let at_or_least : ((s : ℕ) × (s < 64) × (min (low s) (high s) ≤ 254 - 7 * most)) ⊎ ((s : ℕ) × (s < 64) × (min (low s) (high s) ≡ by)) = elim low_at [
+      | inl some ↦ let (s, h, at) = some in inl (s, h, rw (is.least s h) at at)
+      | inr found ↦ let (s, h, at) = found in inr (s, h, rw (is.least s h) at at)
+    ] in
+    holds_push_lowered most pair _ _ pairs
+    (record {
+      low = low;
+      high = high;
+      row = row;
+      least = by;
+      low_is = λ s h. rw (branches.lower s h, ← branch_cost_is pair (s / 2) (s % 2));
+      high_is = λ s h. rw (branches.higher s h, ← branch_cost_is pair (s / 2 + 32) (s % 2));
+      low_wins = is.lower;
+      high_wins = is.higher;
+      least_le = λ s h. rw (is.least s h) at (off.within s h);
+      lowered = λ s h. rw (is.least s h) at (off.less s h);
+      kept = λ s h. rw (is.least s h) at (off.kept s h);
+      rows = refl;
+      base = refl;
+    })
+    few
+    light
+    holds
+    at_or_least
+
+-- nothing taken off
+pub none_off : (entries : List ℕ) → AreLowered entries 0 entries
+none_off entries = record {
+  within = λ s h. omega arith;
+  less = λ s h below. omega arith;
+  kept = λ s h full. full;
+}
 
 -- the same, written in another way
 pub holds_as : (most : ℕ) (entries rows others : List ℕ) (base sum room : ℕ) (pairs more : List PairCosts) → others ≡ rows → sum ≡ base → pairs ≡ more

@@ -125,12 +125,14 @@ module _ (most : ℕ) (pair : PairCosts) (old new : MemoryView) (pairs : List Pa
         let high : IsUnreached (length pairs) (s / 2 + 32) = λ v leads. none (v ++ s % 2 ∷ []) (rw (goes_to_high s h) at (leads_push (length pairs) (s / 2 + 32) (s % 2) v leads (omega arith))) in
         step.kept s h (omega (arith, low_full s h low, high_full s h high))
 
-    -- some entry is low, where the first was, or the least is taken off
-    some_low : (min (step.low 0) (step.high 0) ≤ 254 - 7 * most) ⊎ ((s : ℕ) × (s < 64) × (min (step.low s) (step.high s) ≡ step.least)) → HasEntryAtMost (254 - 7 * most) new.entries
+    -- some entry is low, where one was, or the least is taken off
+    some_low : ((s : ℕ) × (s < 64) × (min (step.low s) (step.high s) ≤ 254 - 7 * most)) ⊎ ((s : ℕ) × (s < 64) × (min (step.low s) (step.high s) ≡ step.least)) → HasEntryAtMost (254 - 7 * most) new.entries
     some_low low_at =
         let start = low_exact 0 (replicate (length pairs) 0) (omega arith) (leads_by_zeros (length pairs)) in
         elim low_at [
-          | inl first ↦ (0, omega arith, omega (arith, step.lowered 0 (omega arith) (omega arith), first))
+          | inl some ↦
+              let (s, h, low) = some in
+              (s, h, omega (arith, step.lowered s h (omega arith), low))
           | inr found ↦
               let (s, h, least) = found in
               (s, h, omega (arith, step.lowered s h (omega (arith, least, step.least_le 0 (omega arith), start)), least))
@@ -147,5 +149,5 @@ module _ (most : ℕ) (pair : PairCosts) (old new : MemoryView) (pairs : List Pa
           low = low;
         }
 
-    pub holds_push_lowered : (min (step.low 0) (step.high 0) ≤ 254 - 7 * most) ⊎ ((s : ℕ) × (s < 64) × (min (step.low s) (step.high s) ≡ step.least)) → Holds most new (pairs ++ pair ∷ [])
+    pub holds_push_lowered : ((s : ℕ) × (s < 64) × (min (step.low s) (step.high s) ≤ 254 - 7 * most)) ⊎ ((s : ℕ) × (s < 64) × (min (step.low s) (step.high s) ≡ step.least)) → Holds most new (pairs ++ pair ∷ [])
     holds_push_lowered low_at = holds_push (some_low low_at)

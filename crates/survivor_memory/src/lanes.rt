@@ -3,7 +3,7 @@ ghost use Rattle.std.specs.Prelude.{◌≡◌, ◌≢◌, ◌==◌, ℕ, ◌+◌
 ghost use Rattle.std.specs.Int.{bit_at};
 ghost use Rattle.conv_code.specs.States.{branch_a, branch_b};
 ghost use Rattle.survivor_memory.specs.Costs.{price, IsLight};
-ghost use Rattle.survivor_memory.specs.Survivors.{AreEntries, AreLowered, AreNextEntries};
+ghost use Rattle.survivor_memory.specs.Survivors.{AreEntries, AreLowered, AreNextEntries, HasEntryAtMost};
 
 use crate::PairCosts;
 use std::simd::prelude::*;
@@ -115,14 +115,14 @@ pub fn next_entries(entries: u8x64, from_lower: u8x64, from_higher: u8x64) -> (u
     (best, differing(lower, best))
 }
 
-/// Takes the least of the entries off all of them but 255, where the first is above a limit. Answers the entries, and how
-/// much that is, so 0 where the first is at most the limit.
+/// Takes the least of the entries off all of them but 255, where all are above a limit. Answers the entries, and how much
+/// that is, so 0 where some entry is at most the limit.
 #[inline(always)]
 pub fn lower_above(entries: u8x64, limit: u8) -> (u8x64, u8)
     ensures lowered { AreLowered entries result.1 result.0 }
     ensures entries { AreEntries result.0 }
-    ensures none { slice_index entries 0 ≤ limit → result.1 ≡ 0 }
-    ensures low { (slice_index entries 0 ≤ limit)
+    ensures none { HasEntryAtMost limit entries → result.1 ≡ 0 }
+    ensures low { HasEntryAtMost limit entries
         ⊎ ((s : ℕ) × (s < 64) × (slice_index entries s ≡ result.1)) }
 {
     match least_above(entries, limit) {
@@ -131,38 +131,37 @@ pub fn lower_above(entries: u8x64, limit: u8) -> (u8x64, u8)
     }
 }
 
-/// The same, of entries that it puts into `out`.
+/// The same, of entries that it puts into `out`. Answers how much it took off, and nothing where some entry is at most the
+/// limit.
 #[inline(always)]
-pub fn put_lowered(entries: u8x64, limit: u8, out: &mut [u8; 64]) -> u8
-    ensures lowered { AreLowered entries result out.new }
+pub fn put_lowered(entries: u8x64, limit: u8, out: &mut [u8; 64]) -> Option<u8>
+    ensures lowered { IfSome result (λ least. AreLowered entries least out.new) }
+    ensures kept { IfNone result (out.new ≡ entries) }
     ensures entries { AreEntries out.new }
-    ensures none { slice_index entries 0 ≤ limit → result ≡ 0 }
-    ensures low { (slice_index entries 0 ≤ limit)
-        ⊎ ((s : ℕ) × (s < 64) × (slice_index entries s ≡ result)) }
+    ensures found { IfSome result (λ least. (s : ℕ) × (s < 64) × (slice_index entries s ≡ least)) }
+    ensures above { IfSome result (λ least. limit < least) }
+    ensures none { IfNone result (HasEntryAtMost limit entries) }
 {
     *out = entries.to_array();
-    match least_above(entries, limit) {
-        None => 0,
-        Some(least) => {
-            *out = lowered(entries, least).to_array();
-            least
-        }
-    }
+    let least = least_above(entries, limit)?;
+    *out = lowered(entries, least).to_array();
+    Some(least)
 }
 
-// The least of the entries, where the first is above a limit.
+// The least of the entries, where it is above a limit.
 #[inline(always)]
 fn least_above(entries: u8x64, limit: u8) -> Option<u8>
     ensures least { IfSome result (λ least. (s : ℕ) → s < 64 → least ≤ slice_index entries s) }
     ensures found { IfSome result (λ least. (s : ℕ) × (s < 64) × (slice_index entries s ≡ least)) }
-    ensures above { IfSome result (λ least. limit < slice_index entries 0) }
-    ensures none { IfNone result (slice_index entries 0 ≤ limit) }
+    ensures above { IfSome result (λ least. limit < least) }
+    ensures none { IfNone result (HasEntryAtMost limit entries) }
 {
+    // most often the first is low
     if entries.to_array()[0] <= limit {
-        None
-    } else {
-        Some(least_of(entries))
+        return None;
     }
+    let least = least_of(entries);
+    if least <= limit { None } else { Some(least) }
 }
 
 // The least of the entries, by halves.

@@ -170,10 +170,12 @@ impl SurvivorMemory {
     {
         let entries = u8x64::from_array(self.entries);
         let (best, row) = lanes::next_entries(entries, from_lower, from_higher);
-        let common = lanes::put_lowered(best, 254 - 7 * most, &mut self.entries);
-        self.rows[self.held] = row;
-        self.held += 1;
-        self.base += u32::from(common);
+        let held = self.held;
+        self.rows[held] = row;
+        self.held = held + 1;
+        if let Some(common) = lanes::put_lowered(best, 254 - 7 * most, &mut self.entries) {
+            self.base += u32::from(common);
+        }
     }
 
     /// Appends two pairs, each by what its branches cost. No pair held costs more than `most`, of which nine are less than

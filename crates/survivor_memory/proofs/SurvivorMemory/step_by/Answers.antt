@@ -1,39 +1,31 @@
-use Rattle.std.proofs.Common.{◌≡◌, ℕ, ◌+◌, ◌-◌, ◌*◌, ◌<◌, ◌≤◌, ◌/◌, ◌%◌, ◌⊎◌, length, min, ap, inl, inr, arith}
+use Rattle.std.proofs.Common.{◌≡◌, ◌+◌, ◌<◌, length, take, ap, refl, inl, inr, sym, arith}
 use Rattle.std.proofs.lemmas.List.{length-take, take_more_set}
-use Rattle.survivor_memory.specs.Survivors.{through_lower, through_higher}
-use Rattle.survivor_memory.proofs.Leading.{branch_cost_is}
-use Rattle.survivor_memory.proofs.Stepping.{holds_push_lowered}
+use Rattle.survivor_memory.proofs.Blocks.{holds_as, holds_next_lowered, none_off}
 use Rattle.survivor_memory.proofs.SurvivorMemory.step_by.Goals as goal
 
-pub returns-clause-appended : goal.returns-clause-appended
-returns-clause-appended c = λ pairs costs branches light holds.
+pub returns-in-Some-clause-appended : goal.returns-in-Some-clause-appended
+returns-in-Some-clause-appended c = λ pairs costs branches light holds.
+    let items = c.self.inside.rows.items in
+    let held = c.self.inside.held in
+    let base = c.self.inside.base in
+    let row = c.next_entries-row in
+    let off = c.in-Some.ensures in
     let room = rw (← c.self.view_is) at c.requires.room in
-    let items = c.self.inside.rows.ok.0 in
-    let place : c.self.inside.held < length c.self.inside.rows.items = omega (arith, room, items, length-take c.self.inside.held c.self.inside.rows.items) in
-    let off = c.put_lowered-common in
-    let next = c.next_entries-row.ensures in
-    let through : ℕ → ℕ = λ s. min (through_lower c.self.inside.entries c.args.from_lower s) (through_higher c.self.inside.entries c.args.from_higher s) in
-    let low_at : (through 0 ≤ 254 - 7 * c.args.most) ⊎ ((s : ℕ) × (s < 64) × (through s ≡ off.result)) = elim off.ensures.low [
-      | inl first ↦ inl (rw (next.least 0 (omega arith)) at first)
-      | inr found ↦ let (s, h, at_least) = found in inr (s, h, rw (next.least s h) at at_least)
-    ] in
-    holds_push_lowered c.args.most costs _ _ pairs
-    (record {
-      low = through_lower c.self.inside.entries c.args.from_lower;
-      high = through_higher c.self.inside.entries c.args.from_higher;
-      row = c.next_entries-row.result.1;
-      least = off.result;
-      low_is = λ s h. rw (branches.lower s h, ← branch_cost_is costs (s / 2) (s % 2));
-      high_is = λ s h. rw (branches.higher s h, ← branch_cost_is costs (s / 2 + 32) (s % 2));
-      low_wins = next.lower;
-      high_wins = next.higher;
-      least_le = λ s h. rw (next.least s h) at (off.ensures.lowered.within s h);
-      lowered = λ s h. rw (next.least s h) at (off.ensures.lowered.less s h);
-      kept = λ s h. rw (next.least s h) at (off.ensures.lowered.kept s h);
-      rows = take_more_set c.self.inside.rows.items c.self.inside.held c.next_entries-row.result.1 place;
-      base = ap (λ n. c.self.inside.base + n) c.from.ensures;
-    })
-    c.requires.light
-    light
-    (rw (← c.self.view_is) at holds)
-    low_at
+    let place : held < length items = omega (arith, room, c.self.inside.rows.ok.0, length-take held items) in
+    holds_as c.args.most _ _ _ _ _ _ _ _ (take_more_set items held row.result.1 place) (ap (λ n. base + n) c.from.ensures) refl
+    (holds_next_lowered c.args.most _ c.self.inside.entries row.result.0 _ (take held items) base _ row.result.1 _ costs pairs (c.requires.light) branches light row.ensures
+        off.lowered (inr off.found) (rw (← c.self.view_is) at holds))
+
+pub returns-in_default-clause-appended : goal.returns-in_default-clause-appended
+returns-in_default-clause-appended c = λ pairs costs branches light holds.
+    let items = c.self.inside.rows.items in
+    let held = c.self.inside.held in
+    let base = c.self.inside.base in
+    let row = c.next_entries-row in
+    let kept = c.in_default.ensures in
+    let room = rw (← c.self.view_is) at c.requires.room in
+    let place : held < length items = omega (arith, room, c.self.inside.rows.ok.0, length-take held items) in
+    rw kept.kept
+    (holds_as c.args.most row.result.0 _ _ _ _ _ _ _ (take_more_set items held row.result.1 place) (omega arith) refl
+    (holds_next_lowered c.args.most 0 c.self.inside.entries row.result.0 row.result.0 (take held items) base _ row.result.1 _ costs pairs (c.requires.light) branches light row.ensures
+        (none_off row.result.0) (inl kept.none) (rw (← c.self.view_is) at holds)))
