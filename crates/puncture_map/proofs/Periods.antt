@@ -1,5 +1,6 @@
 -- Kept places, walked step by step.
 use Rattle.std.proofs.Common.{◌≡◌, ℕ, ◌+◌, ◌*◌, ◌/◌, ◌%◌, ◌<◌, ◌≤◌, Bool, true, false, cond, refl, sym, ap, ◌∙◌, arith}
+use Rattle.std.proofs.Math.Nat.{div-add-mod'}
 use mir.Val.{bool_byte}
 use Rattle.rate_table.specs.declared.CodeRate.{CodeRate}
 use Rattle.rate_table.specs.declared.CodeRate.TheVariants.{Half, TwoThirds, ThreeQuarters}
@@ -12,20 +13,21 @@ at_start Half = (refl, omega arith)
 at_start TwoThirds = (refl, omega arith)
 at_start ThreeQuarters = (refl, omega arith)
 
--- whole periods: none, one more, and those of a count of steps with the steps behind them
-pub record IsWalked (rate : CodeRate) (count n phase : ℕ) : Type 0 where
-  pub none : 0 * period_of rate ≡ 0
-  pub some : 1 ≤ period_of rate
-  pub few : period_of rate ≤ 3
-  pub more : (n + 1) * period_of rate ≡ n * period_of rate + period_of rate
-  pub begins : n * period_of rate % period_of rate ≡ 0
-  pub within : n < count / period_of rate → n * period_of rate + period_of rate ≤ count
-  pub all : count ≡ count / period_of rate * period_of rate + count % period_of rate
-  pub behind : phase < period_of rate → (n * period_of rate + phase) % period_of rate ≡ phase
-  pub rest : count % period_of rate < period_of rate
-  pub zero : n ≡ 0 → n * period_of rate ≡ 0
+-- whole blocks of steps: none, one more, and those of a count of steps with the steps behind them
+pub record IsWalked (block count n phase : ℕ) : Type 0 where
+  pub none : 0 * block ≡ 0
+  pub some : 1 ≤ block
+  pub few : block ≤ 3
+  pub more : (n + 1) * block ≡ n * block + block
+  pub begins : n * block % block ≡ 0
+  pub within : n < count / block → n * block + block ≤ count
+  pub all : count ≡ count / block * block + count % block
+  pub behind : phase < block → (n * block + phase) % block ≡ phase
+  pub rest : count % block < block
+  pub zero : n ≡ 0 → n * block ≡ 0
 
-pub walked : (rate : CodeRate) (count n phase : ℕ) → IsWalked rate count n phase
+-- a period is such a block
+pub walked : (rate : CodeRate) (count n phase : ℕ) → IsWalked (period_of rate) count n phase
 walked Half count n phase = record {
   none = refl;
   some = omega arith;
@@ -63,13 +65,13 @@ walked ThreeQuarters count n phase = record {
   zero = λ h. omega arith;
 }
 
--- the steps of the whole periods
-pub begun : (rate : CodeRate) (count n p : ℕ) → n ≡ count / p → p ≡ period_of rate → n * period_of rate ≡ count / period_of rate * period_of rate
-begun rate count n p done is = ap (λ k. k * period_of rate) (done ∙ ap (λ q. count / q) is)
+-- the steps of the whole blocks
+pub begun : (block count n p : ℕ) → n ≡ count / p → p ≡ block → n * block ≡ count / block * block
+begun block count n p done is = ap (λ k. k * block) (done ∙ ap (λ q. count / q) is)
 
 -- and all steps with those behind them
-pub all_fed : (rate : CodeRate) (count phase p : ℕ) → phase ≡ count % p → p ≡ period_of rate → count / period_of rate * period_of rate + phase ≡ count
-all_fed rate count phase p end is = omega (arith, end ∙ ap (λ q. count % q) is, (walked rate count 0 0).all)
+pub all_fed : (block count phase p : ℕ) → phase ≡ count % p → p ≡ block → count / block * block + phase ≡ count
+all_fed block count phase p end is = rw (end, is) (div-add-mod' count block)
 
 -- no steps have no kept places
 pub none_kept : (rate : CodeRate) (n : ℕ) → n ≡ 0 → 0 ≡ kept_count rate n

@@ -1,3 +1,4 @@
+pub mod Blocks
 pub mod Decisions
 pub mod Distances
 pub mod Nearest

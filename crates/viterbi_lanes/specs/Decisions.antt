@@ -3,6 +3,7 @@
 use Rattle.std.specs.Prelude.{ℕ, ◌*◌, ◌==◌, ◌≤◌, List, min, if◌then◌else◌}
 use Rattle.bit_lists.specs.Bits.{AreBits}
 use Rattle.rate_table.specs.declared.CodeRate.{CodeRate}
+use Rattle.rate_table.specs.declared.CodeRate.TheVariants.{Half, TwoThirds, ThreeQuarters}
 use Rattle.rate_table.specs.declared.Rate.{Rate}
 use Rattle.rate_table.specs.Symbols.{bits_through_tail}
 use Rattle.rate_table.specs.Table.{flip_bound_of, row_of}
@@ -45,3 +46,9 @@ pub record AreNearlyKeptCode (rate : CodeRate) (steps : ℕ) (u decisions : List
 abbrev pub carried_steps : Rate → ℕ → ℕ → ℕ
 carried_steps rate octets symbols =
     min (symbols * (row_of rate).field_bits) (bits_through_tail octets)
+
+-- how many steps are fed at once: two steps, or the three of a period
+abbrev pub fed_at_once : CodeRate → ℕ
+fed_at_once Half = 2
+fed_at_once TwoThirds = 2
+fed_at_once ThreeQuarters = 3

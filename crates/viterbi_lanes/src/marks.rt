@@ -7,12 +7,12 @@ ghost use Rattle.rate_table.specs.Table.{row_of};
 ghost use Rattle.survivor_memory.specs.Survivors.{AreEntries};
 ghost use Rattle.viterbi_lanes.specs.declared.Mark.{Mark};
 ghost use Rattle.viterbi_lanes.specs.declared.Mark.TheVariants.{Zero, One, Absent};
-ghost use Rattle.viterbi_lanes.specs.Decisions.{carried_steps, marks_at, marks_of};
+ghost use Rattle.viterbi_lanes.specs.Decisions.{carried_steps, fed_at_once, marks_at, marks_of};
 ghost use Rattle.viterbi_lanes.specs.Marks.{StandsFor};
 
 use crate::{Mark, Trellis};
 use modem_ports::Steps;
-use puncture_map::{kept_in_period, period};
+use puncture_map::kept_in_period;
 use rate_table::{CodeRate, Rate};
 
 impl Trellis {
@@ -32,41 +32,47 @@ impl Trellis {
         ensures counted { steps.new ≡ raised_by count steps.old }
     {
         let mut next = 0;
-        for _period in 0..count / period(rate) {
-            next = self.feed_period(rate, decisions, next, steps);
+        for _block in 0..count / at_once(rate) {
+            next = self.feed_block(rate, decisions, next, steps);
         }
-        for phase in 0..count % period(rate) {
+        for phase in 0..count % at_once(rate) {
             next = self.feed_step(rate, phase, decisions, next, steps);
         }
     }
 
-    // Appends the marks of a period, of decisions from a place on, and answers the place behind them.
+    // Appends the marks of as many steps as are fed at once, of decisions from a place on, and answers the place behind
+    // them.
     #[inline(always)]
-    fn feed_period(
+    fn feed_block(
         &mut self,
         rate: CodeRate,
         decisions: &[u8],
         next: usize,
         steps: &mut Steps,
     ) -> usize
-        requires room { length self.old.rows + period_of rate ≤ self.old.room }
+        requires room { length self.old.rows + fed_at_once rate ≤ self.old.room }
         requires begins { (step : ℕ) × ((step % period_of rate ≡ 0) × ((next ≡ kept_count rate step)
-            × (kept_count rate (step + period_of rate) ≤ length decisions.now))) }
+            × (kept_count rate (step + fed_at_once rate) ≤ length decisions.now))) }
         requires few { next ≤ 2 ^ 22 }
         ensures appended { (marks : List (Mark × Mark)) (step : ℕ) → step % period_of rate ≡ 0
             → next ≡ kept_count rate step
             → StandsFor self.old (marks ++ marks_of rate decisions.now step)
-            → StandsFor self.new (marks ++ marks_of rate decisions.now (step + period_of rate)) }
+            → StandsFor self.new (marks ++ marks_of rate decisions.now (step + fed_at_once rate)) }
         ensures next { (step : ℕ) → step % period_of rate ≡ 0 → next ≡ kept_count rate step
-            → result ≡ kept_count rate (step + period_of rate) }
-        ensures few { result ≤ next + 2 * period_of rate }
-        ensures held { length self.new.rows ≡ length self.old.rows + period_of rate }
+            → result ≡ kept_count rate (step + fed_at_once rate) }
+        ensures few { result ≤ next + 2 * fed_at_once rate }
+        ensures held { length self.new.rows ≡ length self.old.rows + fed_at_once rate }
         ensures entries { AreEntries self.new.entries }
         ensures room { self.new.room ≡ self.old.room }
-        ensures counted { steps.new ≡ raised_by (period_of rate) steps.old }
+        ensures counted { steps.new ≡ raised_by (fed_at_once rate) steps.old }
     {
         match rate {
-            CodeRate::Half => self.feed_step(rate, 0, decisions, next, steps),
+            CodeRate::Half => {
+                let (first, next) = step_marks(rate, 0, decisions, next);
+                let (second, next) = step_marks(rate, 0, decisions, next);
+                self.two_steps(first, second, steps);
+                next
+            }
             CodeRate::TwoThirds => {
                 let (first, next) = step_marks(rate, 0, decisions, next);
                 let (second, next) = step_marks(rate, 1, decisions, next);
@@ -150,6 +156,16 @@ impl Trellis {
         let bits_through_tail = 22 + 8 * usize::from(octets);
         let left = bits_through_tail - symbol * field_bits;
         self.feed(rate.code_rate(), decisions, field_bits.min(left), steps);
+    }
+}
+
+// How many steps are fed at once.
+fn at_once(rate: CodeRate) -> usize
+    ensures { result ≡ fed_at_once rate }
+{
+    match rate {
+        CodeRate::Half | CodeRate::TwoThirds => 2,
+        CodeRate::ThreeQuarters => 3,
     }
 }
 

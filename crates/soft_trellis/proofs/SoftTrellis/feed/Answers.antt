@@ -75,7 +75,7 @@ loop-phase-init c =
     let p = period_of rate in
     let w = walked rate count n 0 in
     let before = c.loop-period.invariant in
-    let whole = begun rate count n c.period.result (omega arith) c.period.ensures in
+    let whole = begun (period_of rate) count n c.period.result (omega arith) c.period.ensures in
     let start : count / p * p ≡ count / p * p + 0 = omega arith in
     record {
       stands = λ marks stands. rw start at stands;
@@ -91,7 +91,7 @@ pub feed_step-next-requires-clause-room : goal.feed_step-next-requires-clause-ro
 feed_step-next-requires-clause-room c =
     let rate = c.args.rate in
     let w = walked rate c.args.count 0 0 in
-    let whole = begun rate c.args.count c.loop-period._period c.period.result (omega arith) c.period.ensures in
+    let whole = begun (period_of rate) c.args.count c.loop-period._period c.period.result (omega arith) c.period.ensures in
     omega (arith, w.all, whole, rw c.period-2.ensures at c.loop-phase-test.true, c.loop-phase.invariant.held, c.loop-phase.invariant.room, c.loop-period.invariant.held, c.loop-period.invariant.room, c.requires.room)
 
 pub feed_step-next-requires-clause-at : goal.feed_step-next-requires-clause-at
@@ -133,23 +133,23 @@ loop-phase-preserved c =
 pub returns-clause-appended : goal.returns-clause-appended
 returns-clause-appended c = λ marks stands.
     let rate = c.args.rate in
-    let whole = begun rate c.args.count c.loop-period._period c.period.result (omega arith) c.period.ensures in
-    let all = all_fed rate c.args.count c.loop-phase.phase c.period-2.result (omega arith) c.period-2.ensures in
+    let whole = begun (period_of rate) c.args.count c.loop-period._period c.period.result (omega arith) c.period.ensures in
+    let all = all_fed (period_of rate) c.args.count c.loop-phase.phase c.period-2.result (omega arith) c.period-2.ensures in
     rw all at (c.loop-phase.invariant.stands marks (rw whole at (c.loop-period.invariant.stands marks stands)))
 
 pub returns-clause-held : goal.returns-clause-held
 returns-clause-held c =
     let rate = c.args.rate in
-    let whole = begun rate c.args.count c.loop-period._period c.period.result (omega arith) c.period.ensures in
-    let all = all_fed rate c.args.count c.loop-phase.phase c.period-2.result (omega arith) c.period-2.ensures in
+    let whole = begun (period_of rate) c.args.count c.loop-period._period c.period.result (omega arith) c.period.ensures in
+    let all = all_fed (period_of rate) c.args.count c.loop-phase.phase c.period-2.result (omega arith) c.period-2.ensures in
     omega (arith, whole, all, c.loop-phase.invariant.held, c.loop-period.invariant.held)
 
 pub returns-clause-counted : goal.returns-clause-counted
 returns-clause-counted c =
     let rate = c.args.rate in
     let n = c.loop-period._period in
-    let whole = begun rate c.args.count n c.period.result (omega arith) c.period.ensures in
-    let all = all_fed rate c.args.count c.loop-phase.phase c.period-2.result (omega arith) c.period-2.ensures in
+    let whole = begun (period_of rate) c.args.count n c.period.result (omega arith) c.period.ensures in
+    let all = all_fed (period_of rate) c.args.count c.loop-phase.phase c.period-2.result (omega arith) c.period-2.ensures in
     let zero = (walked rate c.args.count n 0).zero in
     elim (cases_lt 0 n) [
       | inl some ↦ elim (cases_lt 0 c.loop-phase.phase) [

@@ -1,4 +1,4 @@
-use Rattle.std.proofs.Common.{◌≡◌, ◌+◌, ◌<◌, length, take, ap, refl, inl, inr, sym, arith}
+use Rattle.std.proofs.Common.{◌+◌, ◌<◌, length, take, ap, refl, inl, inr, arith}
 use Rattle.std.proofs.lemmas.List.{length-take, take_more_set}
 use Rattle.survivor_memory.proofs.Blocks.{holds_as, holds_next_lowered, none_off}
 use Rattle.survivor_memory.proofs.SurvivorMemory.step_by.Goals as goal
@@ -14,7 +14,7 @@ returns-in-Some-clause-appended c = λ pairs costs branches light holds.
     let place : held < length items = omega (arith, room, c.self.inside.rows.ok.0, length-take held items) in
     holds_as c.args.most _ _ _ _ _ _ _ _ (take_more_set items held row.result.1 place) (ap (λ n. base + n) c.from.ensures) refl
     (holds_next_lowered c.args.most _ c.self.inside.entries row.result.0 _ (take held items) base _ row.result.1 _ costs pairs (c.requires.light) branches light row.ensures
-        off.lowered (inr off.found) (rw (← c.self.view_is) at holds))
+    off.lowered (inr off.found) (rw (← c.self.view_is) at holds))
 
 pub returns-in_default-clause-appended : goal.returns-in_default-clause-appended
 returns-in_default-clause-appended c = λ pairs costs branches light holds.
@@ -28,4 +28,4 @@ returns-in_default-clause-appended c = λ pairs costs branches light holds.
     rw kept.kept
     (holds_as c.args.most row.result.0 _ _ _ _ _ _ _ (take_more_set items held row.result.1 place) (omega arith) refl
     (holds_next_lowered c.args.most 0 c.self.inside.entries row.result.0 row.result.0 (take held items) base _ row.result.1 _ costs pairs (c.requires.light) branches light row.ensures
-        (none_off row.result.0) (inl kept.none) (rw (← c.self.view_is) at holds)))
+    (none_off row.result.0) (inl kept.none) (rw (← c.self.view_is) at holds)))
